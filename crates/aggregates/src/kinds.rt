@@ -1,8 +1,7 @@
 //! The kinds of a source's attributes, and the least and the greatest of no value.
 
-ghost use Rattle.std.specs.Prelude.{◌≡◌, [], map, Some, IfOk};
+ghost use Rattle.std.specs.Prelude.{◌≡◌, map, Some, IfOk};
 ghost use Rattle.am_traits.specs.Causes.{HasCause};
-ghost use Rattle.calculus.specs.declared.value.Value.TheVariants.{Text as Empty};
 ghost use Rattle.calculus.specs.Aggregate.{source_kinds, none_value};
 ghost use Rattle.calculus.specs.Database.{Db};
 ghost use Rattle.calculus.specs.Kinds.{is_text_kind};
@@ -11,7 +10,8 @@ ghost use Rattle.aggregates.specs.Settled.{none_over};
 
 use am_traits::{Base, BaseFault};
 use calculus::{
-    AggSource, Domain, Kind, OutOfMemory, QAgg, QTerm, Query, Target, Text, Value, kind_of,
+    AggSource, Kind, OutOfMemory, QAgg, QTerm, Query, Target, Value, empty_text, is_text_kind,
+    kind_of,
 };
 use memory::alone;
 use ovqp::kinds_at;
@@ -55,28 +55,6 @@ fn source_kinds<B: Base>(
     }
 }
 
-/// Whether the kind is there and one of texts.
-#[tactic(auto, unfolding(calculus::specs::Kinds::is_text_kind))]
-fn is_text_kind(kind: Option<Kind>) -> bool
-    ensures { result ≡ is_text_kind kind }
-{
-    match kind {
-        Some(Kind::Of(Domain::C(_))) => true,
-        _ => false,
-    }
-}
-
-/// The empty text.
-#[tactic(auto, unfolding(calculus::specs::Text::text_of))]
-fn no_text(alloc: Global) -> Result<Value, OutOfMemory>
-    ensures { IfOk result (λ v. v ≡ Empty []) }
-{
-    match Text::of(alloc, &[])? {
-        Some(text) => Ok(Value::Text(text)),
-        None => Ok(Value::Int(0)),
-    }
-}
-
 /// The least and the greatest of no value of a term, whose only variable has attributes of these
 /// kinds: the empty text of texts, else 0.
 fn none_over(alloc: Global, arg: &QTerm, kinds: Vec<Kind>) -> Result<Value, OutOfMemory>
@@ -84,7 +62,7 @@ fn none_over(alloc: Global, arg: &QTerm, kinds: Vec<Kind>) -> Result<Value, OutO
 {
     let vars = alone(alloc, kinds)?;
     if is_text_kind(kind_of(arg, &vars)) {
-        no_text(alloc)
+        empty_text(alloc)
     } else {
         Ok(Value::Int(0))
     }

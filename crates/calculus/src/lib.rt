@@ -2,6 +2,7 @@
 #![tactic(auto)]
 
 mod agg_table;
+mod blank;
 mod change;
 mod copies;
 mod groups;
@@ -23,9 +24,13 @@ mod text;
 mod value;
 
 pub use agg_table::AggTable;
+pub use blank::{blank_values, empty_text, put_at};
 pub use change::{Change, DbChange, Pair};
 pub use groups::Groups;
-pub use kinds::{kind_of, kinds_fit};
+pub use kinds::{
+    comparable, is_number_kind, is_text_kind, joined_kind, kind_of, kinds_fit, made_kind,
+    number_kind, operated_kind,
+};
 pub use mark::{Mark, next_mark};
 pub use memory::{Boxed, List, OutOfMemory, TryCopy};
 pub use name::{Name, is_name};

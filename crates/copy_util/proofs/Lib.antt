@@ -1,5 +1,4 @@
 pub mod Appended
-pub mod Blank
 pub mod Copied
 pub mod Cuts
 pub mod Digits

@@ -9,12 +9,14 @@ ghost use Rattle.calculus.specs.Kinds.{comparable, kind_of, kinds_fit};
 ghost use Rattle.calculus.specs.QueryParts.{targets_of};
 ghost use Rattle.quel_meaning.specs.KindsInQueries.{aggregate_kind, fitting_kind, folded_kind, links_fit};
 
-use crate::making::{comparable, is_number_kind};
 use crate::widths::target_kinds;
 use am_traits::{Base, BaseFault};
-use calculus::{AggOp, AggSource, Kind, OutOfMemory, QAgg, QTerm, Query, kind_of, kinds_fit};
-use std::alloc::Global;
+use calculus::{
+    AggOp, AggSource, Kind, OutOfMemory, QAgg, QTerm, Query, comparable, is_number_kind, kind_of,
+    kinds_fit,
+};
 use ovqp::kinds_at;
+use std::alloc::Global;
 
 /// The kind of what an operation gives for values of a kind; `None` exactly where it would add texts up.
 fn folded_kind(op: AggOp, kind: Kind) -> Option<Kind>

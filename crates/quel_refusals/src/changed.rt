@@ -18,8 +18,8 @@ use crate::repeated::titles_repeat;
 use am_traits::{Base, BaseFault};
 use calculus::refusals::{IS_CATALOGUE, IS_VIEW, KINDS_DIFFER, NAMED_TWICE, PAST_LIMIT};
 use calculus::{Name, RelKey, Update};
-use std::alloc::Global;
 use ovqp::kinds_at;
+use std::alloc::Global;
 
 /// Whether the administrator's catalogue of a name has this key.
 fn has_catalogue_key(key: &RelKey, dba: &Name) -> bool

@@ -9,10 +9,9 @@ ghost use Rattle.calculus.specs.Kinds.{comparable, kind_of};
 ghost use Rattle.quel_meaning.specs.KindsInQueries.{kind_in_query, query_fits};
 
 use crate::kinds::var_kinds;
-use crate::making::is_number_kind;
 use crate::terms::{kind_in_query, kinds_fit_in_query};
 use am_traits::{Base, BaseFault};
-use calculus::{Domain, Kind, Query, Target, kind_of};
+use calculus::{Domain, Kind, Query, Target, is_number_kind, kind_of};
 use std::alloc::Global;
 
 fn same_domain(left: Domain, right: Domain) -> bool

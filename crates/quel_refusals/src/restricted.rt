@@ -22,9 +22,9 @@ use am_traits::{Base, BaseFault};
 use calculus::limits::{GREATEST_NUMBER, MOST_NUMBERED, MOST_SIZE};
 use calculus::refusals::{KINDS_DIFFER, PAST_LIMIT};
 use calculus::{Kind, Name, OutOfMemory, Permit, QQual, Query, RelInfo, RelKey, Rule, kinds_fit};
+use ovqp::kinds_at;
 use std::alloc::Global;
 use view_sizes::{qual_depth, qual_size};
-use ovqp::kinds_at;
 
 /// The attributes that a permit lists at most.
 const MOST_LISTED: usize = 65_535;

@@ -7,9 +7,10 @@ ghost use Rattle.calculus.specs.Database.{Db};
 ghost use Rattle.quel_meaning.specs.KindsInQueries.{kind_in_query, kinds_fit_in_query};
 
 use crate::aggregates::aggregate_kind;
-use crate::making::{comparable, is_text_kind, joined_kind, number_kind, operated_kind};
 use am_traits::{Base, BaseFault};
-use calculus::{Kind, QQual, QTerm, kind_of};
+use calculus::{
+    Kind, QQual, QTerm, comparable, is_text_kind, joined_kind, kind_of, number_kind, operated_kind,
+};
 use std::alloc::Global;
 
 /// The kind of a term in a query whose variables have attributes of these kinds; `None` exactly where a

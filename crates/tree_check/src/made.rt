@@ -6,9 +6,8 @@ ghost use Rattle.calculus.specs.QueryParts.{targets_of};
 ghost use Rattle.calculus.specs.Replacement.{made_attr};
 ghost use Rattle.quel_meaning.specs.Planned.{target_attr};
 
-use calculus::{Attr, OutOfMemory, Query, Target};
+use calculus::{Attr, OutOfMemory, Query, Target, made_kind};
 use change_check::{attrs_stand, relation_attrs_stand};
-use quel_refusals::made_kind;
 use std::alloc::Global;
 
 /// The attribute of a view that a target is.

@@ -19,7 +19,8 @@ use crate::relations::relation_fits;
 use am_traits::{Base, BaseFault};
 use calculus::{Kind, OutOfMemory, QQual, Update, UpdateOp, kinds_fit};
 use change_check::{are_places, places_differ};
-use quel_refusals::{assignments_fit, kinds_at, made_kinds};
+use ovqp::kinds_at;
+use quel_refusals::{assignments_fit, made_kinds};
 use std::alloc::Global;
 use view_sizes::update_expanded_variables;
 

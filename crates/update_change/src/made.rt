@@ -11,21 +11,11 @@ use crate::UpdateFault;
 use crate::limit::are_too_many;
 use crate::pairs_rows::pairs_rows;
 use calculus::{
-    Attr, DbChange, Domain, Kind, List, OutOfMemory, Pair, RelInfo, RowSet, Spec, Target, TryCopy,
-    Update,
+    Attr, DbChange, List, OutOfMemory, Pair, RelInfo, RowSet, Spec, Target, TryCopy, Update,
+    made_kind,
 };
 use memory::both;
 use std::alloc::Global;
-
-/// The kind of the attribute that is made of a target: numbers of 64 bits become ones of 32.
-fn made_kind(target: &Target) -> Kind
-    ensures { result ≡ (made_attr target.now).kind }
-{
-    match target.kind {
-        Kind::Wide => Kind::Of(Domain::I4),
-        Kind::Of(domain) => Kind::Of(domain),
-    }
-}
 
 /// The attribute that is made of a target.
 fn made_attr(alloc: Global, target: &Target) -> Result<Attr, OutOfMemory>

@@ -24,10 +24,9 @@ use am_traits::Base;
 use calculus::refusals::{KINDS_DIFFER, NAMED_TWICE};
 use calculus::{
     Attr, Chars, Checked, CopyCol, CopyForm, Kind, List, Name, OutOfMemory, RelInfo, TryCopy,
-    Utility,
+    Utility, is_text_kind,
 };
 use memory::both;
-use quel_refusals::is_text_kind;
 use std::alloc::Global;
 
 /// Whether a column has a number's bytes.

@@ -2,7 +2,7 @@ use Rattle.std.proofs.Common.{◌≡◌, refl, sym, ap, ◌∙◌, [], Some}
 use Rattle.calculus.specs.Text.{text_of}
 use Rattle.calculus.specs.declared.value.Value.TheVariants.{Text as TextValue}
 use Rattle.std.proofs.lemmas.Option.{none-some, same_Some}
-use Rattle.stage_proc.proofs.new_row.empty_text.Goals as goal
+use Rattle.calculus.proofs.blank.empty_text.Goals as goal
 
 empty_is : text_of [] ≡ Some []
 unfolding text_of
