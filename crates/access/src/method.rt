@@ -3,9 +3,9 @@
 ghost use Rattle.std.specs.Prelude.{◌≡◌, ◌+◌, ◌++◌, ◌^◌, ◌<◌, ◌≤◌, Some, true, All, IsTrue, IfOk, OnOk, length};
 ghost use Rattle.disk_model.specs.Disk.{Image, RisesUpTo};
 ghost use Rattle.calculus.specs.Rows.{has};
-ghost use Rattle.access_traits.specs.Causes.{HasFileCause};
-ghost use Rattle.access_traits.specs.Pages.{KeepsOthers};
-ghost use Rattle.access_traits.specs.Placed.{Placed, Replaced, NowHolds, SameButUsed, rows_differ, rows_of};
+ghost use Rattle.am_traits.specs.Causes.{HasFileCause};
+ghost use Rattle.am_traits.specs.Pages.{KeepsOthers};
+ghost use Rattle.am_traits.specs.Placed.{Placed, Replaced, NowHolds, SameButUsed, rows_differ, rows_of};
 ghost use Rattle.page_cells.specs.RowBytes.{is_row, widths};
 ghost use Rattle.page_chain.specs.Lying.{place_of};
 ghost use Rattle.page_chain.specs.Pages.{page_at};
@@ -14,8 +14,8 @@ ghost use Rattle.heap_am.specs.Heap.{heap_rows, stands, pages_ahead, HeapFault};
 ghost use Rattle.heap_am.specs.Laws.{no_rows_at_fault, own_pages, whole_scan};
 ghost use Rattle.heap_am.specs.Met.{placed_from, on_page};
 
-use access_traits::{AccessMethod, PageStore, RelFile};
-use am_traits::BaseFault;
+use am_traits::{AccessMethod, PageStore, RelFile};
+use base_trait::BaseFault;
 use calculus::{Place, Probe, Row};
 use heap_am::Heap;
 use memory::List;
@@ -58,7 +58,7 @@ impl Method {
         number: u32,
     ) -> Result<List<(u16, Row)>, BaseFault>
         requires below { number < self.now.heap.file.used }
-        ensures told { (m : Image) (rows : Placed) → S.pages store.old ≡ Some m → heap_rows self.now.heap.file m ≡ Some rows
+        ensures known { (m : Image) (rows : Placed) → S.pages store.old ≡ Some m → heap_rows self.now.heap.file m ≡ Some rows
             → IfOk result (λ found. placed_from rows (place_of number 0) ≡ on_page number found ++ placed_from rows (place_of (number + 1) 0)) }
         ensures stands { (m : Image) → S.pages store.old ≡ Some m → OnOk result (IsTrue (stands (reader self.now.heap.file.domains) self.now.heap.file.used number (m (page_at self.now.heap.file.file number)))) }
         ensures same { S.pages store.new ≡ S.pages store.old }
@@ -85,7 +85,7 @@ impl Method {
         requires going { All (λ row. IsTrue (is_row row self.old.heap.file.domains)) going.now }
         requires coming { All (λ row. IsTrue (is_row row self.old.heap.file.domains)) coming.now }
         requires room { self.old.heap.file.used + length coming.now < 2 ^ 32 }
-        ensures told { (m : Image) (rows : Placed) → S.pages store.old ≡ Some m → heap_rows self.old.heap.file m ≡ Some rows
+        ensures known { (m : Image) (rows : Placed) → S.pages store.old ≡ Some m → heap_rows self.old.heap.file m ≡ Some rows
             → rows_differ (rows_of rows) ≡ true → rows_differ going.now ≡ true → All (λ row. IsTrue (has (rows_of rows) row)) going.now
             → IfOk result (λ all. IsTrue all × NowHolds (heap_rows self.new.heap.file) (S.pages store.new) (Replaced rows going.now coming.now)) }
         ensures others { OnOk result (KeepsOthers self.old.heap.file.file (S.pages store.old) (S.pages store.new)) }

@@ -18,7 +18,7 @@ use Rattle.calculus.specs.Table.{tabled, StandsFor, HasTable, has_its_table, Has
 use Rattle.calculus.specs.Targets.{target_values, rows_given, some_lacks}
 use Rattle.calculus.specs.Term.{Env, Aggs, holds, value_before}
 use Rattle.calculus.specs.Tree.{neg, abs, operation, concat, both, either, negated}
-use Rattle.calculus.specs.Who.{Free}
+use Rattle.calculus.specs.Who.{Unrestricted}
 use Rattle.quel_meaning.proofs.Each.{left, right}
 use Rattle.quel_meaning.specs.FitQueries.{slots_count_from, slots_count_up}
 use Rattle.scalar_eval.proofs.Stands.{same_value, same_truth}
@@ -29,7 +29,7 @@ found_behind [] t ts = refl
 found_behind (b ∷ before) t ts = found_behind before t ts
 
 placed : (db : Db) (all before ts : List AggTable) (gs : List QAgg) (n : ℕ) → all ≡ before ++ ts → length before ≡ n → slots_count_from n gs ≡ true → AllStand db ts gs
-    → AllByRecursion (HasTable all (aggregates db Free)) gs
+    → AllByRecursion (HasTable all (aggregates db Unrestricted)) gs
 placed db all before [] [] n e many slots stand = tt
 placed db all before [] (g ∷ gs) n e many slots stand = absurd stand
 placed db all before (t ∷ ts) [] n e many slots stand = tt
@@ -89,18 +89,18 @@ targets_have tables aggs (t ∷ ts) h = (
 -- ---- a query whose tables stand
 
 all_placed : (db : Db) (q : Query) (tables : List AggTable) → slots_count_up q ≡ true → AllStand db tables (query_aggregates q)
-    → AllByRecursion (HasTable tables (aggregates db Free)) (query_aggregates q)
+    → AllByRecursion (HasTable tables (aggregates db Unrestricted)) (query_aggregates q)
 all_placed db q tables slots stand = placed db tables [] tables (query_aggregates q) 0 refl refl slots stand
 
 pub targets_settled : (db : Db) (q : Query) (tables : List AggTable) → slots_count_up q ≡ true → AllStand db tables (query_aggregates q) → TargetsHaveTables tables db q
 targets_settled db q tables slots stand =
-    targets_have tables (aggregates db Free) (targets_of q)
+    targets_have tables (aggregates db Unrestricted) (targets_of q)
     (all_left _ (flat_map (λ (t : Target). term_aggregates t.term) (targets_of q)) (qual_aggregates (qual_of q)) (all_placed db q tables slots stand))
 
 pub qual_settled : (db : Db) (q : Query) (tables : List AggTable) → slots_count_up q ≡ true → AllStand db tables (query_aggregates q)
-    → HasAllTables tables (aggregates db Free) (qual_of q)
+    → HasAllTables tables (aggregates db Unrestricted) (qual_of q)
 qual_settled db q tables slots stand =
-    qual_has tables (aggregates db Free) (qual_of q)
+    qual_has tables (aggregates db Unrestricted) (qual_of q)
     (all_right _ (flat_map (λ (t : Target). term_aggregates t.term) (targets_of q)) (qual_aggregates (qual_of q)) (all_placed db q tables slots stand))
 
 same_targets : (tables : List AggTable) (aggs : Aggs) (ts : List Target) (e : Env) → AllByRecursion (λ t. HasTables tables aggs t.term) ts
@@ -109,30 +109,30 @@ same_targets tables aggs [] e h = refl
 same_targets tables aggs (t ∷ ts) e h = λ i. value_before (same_value tables aggs t.term e h.0 i) (same_targets tables aggs ts e h.1 i)
 
 pub values_settled : (db : Db) (q : Query) (tables : List AggTable) → slots_count_up q ≡ true → AllStand db tables (query_aggregates q) → (e : Env)
-    → target_values (tabled tables) (targets_of q) e ≡ target_values (aggregates db Free) (targets_of q) e
-values_settled db q tables slots stand e = same_targets tables (aggregates db Free) (targets_of q) e (targets_settled db q tables slots stand)
+    → target_values (tabled tables) (targets_of q) e ≡ target_values (aggregates db Unrestricted) (targets_of q) e
+values_settled db q tables slots stand e = same_targets tables (aggregates db Unrestricted) (targets_of q) e (targets_settled db q tables slots stand)
 
 pub truth_settled : (db : Db) (q : Query) (tables : List AggTable) → slots_count_up q ≡ true → AllStand db tables (query_aggregates q) → (e : Env)
-    → holds (tabled tables) (qual_of q) e ≡ holds (aggregates db Free) (qual_of q) e
-truth_settled db q tables slots stand e = same_truth tables (aggregates db Free) (qual_of q) e (qual_settled db q tables slots stand)
+    → holds (tabled tables) (qual_of q) e ≡ holds (aggregates db Unrestricted) (qual_of q) e
+truth_settled db q tables slots stand e = same_truth tables (aggregates db Unrestricted) (qual_of q) e (qual_settled db q tables slots stand)
 
 pub rows_settled : (db : Db) (q : Query) (tables : List AggTable) → slots_count_up q ≡ true → AllStand db tables (query_aggregates q) → (es : List Env)
-    → rows_given (tabled tables) q es ≡ rows_given (aggregates db Free) q es
+    → rows_given (tabled tables) q es ≡ rows_given (aggregates db Unrestricted) q es
 unfolding rows_given
 rows_settled db q tables slots stand es =
-    λ i. set_of (filter_map (λ e. same_targets tables (aggregates db Free) (targets_of q) e (targets_settled db q tables slots stand) i)
-    (filter (λ e. same_truth tables (aggregates db Free) (qual_of q) e (qual_settled db q tables slots stand) i) es))
+    λ i. set_of (filter_map (λ e. same_targets tables (aggregates db Unrestricted) (targets_of q) e (targets_settled db q tables slots stand) i)
+    (filter (λ e. same_truth tables (aggregates db Unrestricted) (qual_of q) e (qual_settled db q tables slots stand) i) es))
 
 pub lacks_settled : (db : Db) (q : Query) (tables : List AggTable) → slots_count_up q ≡ true → AllStand db tables (query_aggregates q) → (es : List Env)
-    → some_lacks (tabled tables) q es ≡ some_lacks (aggregates db Free) q es
+    → some_lacks (tabled tables) q es ≡ some_lacks (aggregates db Unrestricted) q es
 unfolding some_lacks
 lacks_settled db q tables slots stand es =
-    λ i. list_any (λ e. is_none (same_targets tables (aggregates db Free) (targets_of q) e (targets_settled db q tables slots stand) i))
-    (filter (λ e. same_truth tables (aggregates db Free) (qual_of q) e (qual_settled db q tables slots stand) i) es)
+    λ i. list_any (λ e. is_none (same_targets tables (aggregates db Unrestricted) (targets_of q) e (targets_settled db q tables slots stand) i))
+    (filter (λ e. same_truth tables (aggregates db Unrestricted) (qual_of q) e (qual_settled db q tables slots stand) i) es)
 
 -- ---- one table behind the others
 
-pub one_more_stands : (db : Db) (ts : List AggTable) (gs : List QAgg) (t : AggTable) (g : QAgg) → AllStand db ts gs → StandsFor t g (aggregates db Free)
+pub one_more_stands : (db : Db) (ts : List AggTable) (gs : List QAgg) (t : AggTable) (g : QAgg) → AllStand db ts gs → StandsFor t g (aggregates db Unrestricted)
     → AllStand db (ts ++ t ∷ []) (gs ++ g ∷ [])
 one_more_stands db [] [] t g all one = (one, tt)
 one_more_stands db [] (h ∷ gs) t g all one = absurd all
@@ -145,7 +145,7 @@ all_behind P (y ∷ ys) x all one = (all.0, all_behind P ys x all.1 one)
 
 -- the tables of the first of these, and of one more
 pub next_stands : {X : Type 0} (f : X → QAgg) (db : Db) (xs : List X) (i : ℕ) (x : X) (ts new : List AggTable) (t : AggTable) → i < length xs → x ≡ get_or xs i x
-    → AllStand db ts (map f (take i xs)) → StandsFor t (f x) (aggregates db Free) → new ≡ ts ++ t ∷ [] → AllStand db new (map f (take (i + 1) xs))
+    → AllStand db ts (map f (take i xs)) → StandsFor t (f x) (aggregates db Unrestricted) → new ≡ ts ++ t ∷ [] → AllStand db new (map f (take (i + 1) xs))
 next_stands f db xs i x ts new t h is all one more =
     subst (λ us. AllStand db us (map f (take (i + 1) xs))) (sym more)
     (subst (AllStand db (ts ++ t ∷ [])) (ap (λ y. map f (take i xs) ++ f y ∷ []) is ∙ sym (map_more f xs i x h))

@@ -14,7 +14,7 @@ use Rattle.calculus.specs.Term.{val, holds, no_aggs, values_of}
 use Rattle.calculus.specs.Used.{used_in_aggregate}
 use Rattle.calculus.specs.Value.{row_cmp}
 use Rattle.calculus.specs.VariableRows.{rows_of}
-use Rattle.calculus.specs.Who.{Free}
+use Rattle.calculus.specs.Who.{Unrestricted}
 use Rattle.aggregates.specs.Members.{Member, member_by, members}
 use Rattle.aggregates.specs.Runs.{folded, folded_where}
 
@@ -47,15 +47,15 @@ folded_is db g None = refl
 folded_is db g (Some vs) = refl
 
 pub stands : (db : Db) (g : QAgg) (table : AggTable) (none : Value) (rows : List Row) → none ≡ none_value db g
-    → rows ≡ source_rows (rows_of db Free) (used_in_aggregate g) g.source
-    → ((link : Row) → in_groups table.empty table.groups link ≡ folded g.op none (args_for g rows link)) → StandsFor table g (aggregates db Free)
+    → rows ≡ source_rows (rows_of db Unrestricted) (used_in_aggregate g) g.source
+    → ((link : Row) → in_groups table.empty table.groups link ≡ folded g.op none (args_for g rows link)) → StandsFor table g (aggregates db Unrestricted)
 unfolding said aggregates
 stands db g table none rows least all found e = by_links (values_of g.link e)
   where
-    by_links : (o : Option Row) → said table o ≡ fold_linked db (rows_of db Free) g o
+    by_links : (o : Option Row) → said table o ≡ fold_linked db (rows_of db Unrestricted) g o
     by_links None = refl
     by_links (Some link) =
         found link
         ∙ (λ i. folded g.op (least i) (args_for g (all i) link))
-        ∙ ap (λ args. folded g.op (none_value db g) args) (sym (gathered g link (source_rows (rows_of db Free) (used_in_aggregate g) g.source)))
-        ∙ folded_is db g (arguments g (folded_rows (rows_of db Free) g link))
+        ∙ ap (λ args. folded g.op (none_value db g) args) (sym (gathered g link (source_rows (rows_of db Unrestricted) (used_in_aggregate g) g.source)))
+        ∙ folded_is db g (arguments g (folded_rows (rows_of db Unrestricted) g link))

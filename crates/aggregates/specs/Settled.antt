@@ -16,7 +16,7 @@ use Rattle.calculus.specs.Rows.{Row}
 use Rattle.calculus.specs.Table.{StandsFor, HasTables}
 use Rattle.calculus.specs.Targets.{target_values, qualifying}
 use Rattle.calculus.specs.Term.{Env, no_aggs}
-use Rattle.calculus.specs.Who.{Free}
+use Rattle.calculus.specs.Who.{Unrestricted}
 use Rattle.calculus.specs.Groups.{GroupsAscend}
 
 -- the least and the greatest of no value of a term, whose only variable has attributes of these kinds
@@ -32,11 +32,11 @@ abbrev pub AllStand : Db → List AggTable → List QAgg → Type 0
 AllStand db [] [] = ⊤
 AllStand db [] (g ∷ gs) = ⊥
 AllStand db (t ∷ ts) [] = ⊥
-AllStand db (t ∷ ts) (g ∷ gs) = StandsFor t g (aggregates db Free) × AllStand db ts gs
+AllStand db (t ∷ ts) (g ∷ gs) = StandsFor t g (aggregates db Unrestricted) × AllStand db ts gs
 
 -- each aggregate of each target has its table
 abbrev pub TargetsHaveTables : List AggTable → Db → Query → Type 0
-TargetsHaveTables tables db q = AllByRecursion (λ t. HasTables tables (aggregates db Free) t.term) (targets_of q)
+TargetsHaveTables tables db q = AllByRecursion (λ t. HasTables tables (aggregates db Unrestricted) t.term) (targets_of q)
 
 -- in each table the by-values of the groups ascend strictly
 abbrev pub AllAscend : List AggTable → Type 0

@@ -1,17 +1,17 @@
 //! The kinds of a source's attributes, and the least and the greatest of no value.
 
-ghost use Rattle.std.specs.Prelude.{◌≡◌, [], map, Some, IfOk};
-ghost use Rattle.am_traits.specs.Causes.{HasCause};
-ghost use Rattle.calculus.specs.declared.value.Value.TheVariants.{Text as Empty};
+ghost use Rattle.std.specs.Prelude.{◌≡◌, map, Some, IfOk};
+ghost use Rattle.base_trait.specs.Causes.{HasCause};
 ghost use Rattle.calculus.specs.Aggregate.{source_kinds, none_value};
 ghost use Rattle.calculus.specs.Database.{Db};
 ghost use Rattle.calculus.specs.Kinds.{is_text_kind};
 ghost use Rattle.calculus.specs.QueryParts.{targets_of};
 ghost use Rattle.aggregates.specs.Settled.{none_over};
 
-use am_traits::{Base, BaseFault};
+use base_trait::{Base, BaseFault};
 use calculus::{
-    AggSource, Domain, Kind, OutOfMemory, QAgg, QTerm, Query, Target, Text, Value, kind_of,
+    AggSource, Kind, OutOfMemory, QAgg, QTerm, Query, Target, Value, empty_text, is_text_kind,
+    kind_of,
 };
 use memory::alone;
 use ovqp::kinds_at;
@@ -43,7 +43,7 @@ fn source_kinds<B: Base>(
     base: &mut B,
     source: &AggSource,
 ) -> Result<Vec<Kind>, BaseFault>
-    ensures told { (db : Db) → B.database base.old ≡ Some db → IfOk result (λ kinds. kinds.items ≡ source_kinds db source.now) }
+    ensures known { (db : Db) → B.database base.old ≡ Some db → IfOk result (λ kinds. kinds.items ≡ source_kinds db source.now) }
     ensures kept { B.database base.new ≡ B.database base.old }
     ensures stays { (s : Db) → B.schema base.old ≡ Some s → B.schema base.new ≡ Some s }
     ensures asked { (b : B) → B.asked b base.old → B.asked b base.new }
@@ -55,28 +55,6 @@ fn source_kinds<B: Base>(
     }
 }
 
-/// Whether the kind is there and one of texts.
-#[tactic(auto, unfolding(calculus::specs::Kinds::is_text_kind))]
-fn is_text_kind(kind: Option<Kind>) -> bool
-    ensures { result ≡ is_text_kind kind }
-{
-    match kind {
-        Some(Kind::Of(Domain::C(_))) => true,
-        _ => false,
-    }
-}
-
-/// The empty text.
-#[tactic(auto, unfolding(calculus::specs::Text::text_of))]
-fn no_text(alloc: Global) -> Result<Value, OutOfMemory>
-    ensures { IfOk result (λ v. v ≡ Empty []) }
-{
-    match Text::of(alloc, &[])? {
-        Some(text) => Ok(Value::Text(text)),
-        None => Ok(Value::Int(0)),
-    }
-}
-
 /// The least and the greatest of no value of a term, whose only variable has attributes of these
 /// kinds: the empty text of texts, else 0.
 fn none_over(alloc: Global, arg: &QTerm, kinds: Vec<Kind>) -> Result<Value, OutOfMemory>
@@ -84,7 +62,7 @@ fn none_over(alloc: Global, arg: &QTerm, kinds: Vec<Kind>) -> Result<Value, OutO
 {
     let vars = alone(alloc, kinds)?;
     if is_text_kind(kind_of(arg, &vars)) {
-        no_text(alloc)
+        empty_text(alloc)
     } else {
         Ok(Value::Int(0))
     }
@@ -96,7 +74,7 @@ pub(crate) fn none_value<B: Base>(
     base: &mut B,
     agg: &QAgg,
 ) -> Result<Value, BaseFault>
-    ensures told { (db : Db) → B.database base.old ≡ Some db → IfOk result (λ v. v ≡ none_value db agg.now) }
+    ensures known { (db : Db) → B.database base.old ≡ Some db → IfOk result (λ v. v ≡ none_value db agg.now) }
     ensures kept { B.database base.new ≡ B.database base.old }
     ensures stays { (s : Db) → B.schema base.old ≡ Some s → B.schema base.new ≡ Some s }
     ensures asked { (b : B) → B.asked b base.old → B.asked b base.new }

@@ -3,7 +3,7 @@
 ghost use Rattle.std.specs.Prelude.{◌≡◌, [], ◌∷◌, ◌++◌, List, filter, length, map, Some, IsTrue, IfOk, OnOk};
 ghost use Rattle.std.specs.List.{list_all};
 ghost use Rattle.std.specs.Ordering.{is_eq};
-ghost use Rattle.am_traits.specs.Causes.{HasCause};
+ghost use Rattle.base_trait.specs.Causes.{HasCause};
 ghost use Rattle.calculus.specs.declared.value.Value.{Value as Cell};
 ghost use Rattle.calculus.specs.Aggregate.{aggregates, fold_values};
 ghost use Rattle.calculus.specs.Database.{Db};
@@ -14,7 +14,7 @@ ghost use Rattle.calculus.specs.Table.{HasAllTables, StandsFor, in_groups, table
 ghost use Rattle.calculus.specs.Targets.{rows_given, some_lacks, target_values};
 ghost use Rattle.calculus.specs.Term.{Env, holds};
 ghost use Rattle.calculus.specs.Value.{row_cmp};
-ghost use Rattle.calculus.specs.Who.{Free};
+ghost use Rattle.calculus.specs.Who.{Unrestricted};
 ghost use Rattle.quel_meaning.specs.FitQueries.{kept_alone, source_fits, sources_fit, slots_count_up};
 ghost use Rattle.aggregates.specs.Members.{members};
 ghost use Rattle.aggregates.specs.Runs.{folded};
@@ -25,7 +25,7 @@ use crate::kinds::none_value;
 use crate::listed::aggregates_of;
 use crate::members::members;
 use crate::sources::source_rows;
-use am_traits::{Base, BaseFault};
+use base_trait::{Base, BaseFault};
 use calculus::{AggOp, AggTable, Groups, OutOfMemory, QAgg, Query, Row, RowSet, TryCopy, Value};
 use std::alloc::Global;
 
@@ -94,7 +94,7 @@ fn table_of(alloc: Global, agg: &QAgg, none: Value, rows: RowSet) -> Result<AggT
 fn table<B: Base>(alloc: Global, base: &mut B, agg: &QAgg) -> Result<AggTable, BaseFault>
     requires { (db : Db) → B.database base.old ≡ Some db → IsTrue (source_fits (kept_alone db) db agg.now.source) }
     ensures ascend { IfOk result (λ table. GroupsAscend table.groups) }
-    ensures told { (db : Db) → B.database base.old ≡ Some db → IfOk result (λ table. StandsFor table agg.now (aggregates db Free)) }
+    ensures known { (db : Db) → B.database base.old ≡ Some db → IfOk result (λ table. StandsFor table agg.now (aggregates db Unrestricted)) }
     ensures kept { B.database base.new ≡ B.database base.old }
     ensures stays { (s : Db) → B.schema base.old ≡ Some s → B.schema base.new ≡ Some s }
     ensures asked { (b : B) → B.asked b base.old → B.asked b base.new }
@@ -124,7 +124,7 @@ fn tables_of<B: Base>(
     requires { (db : Db) → B.database base.old ≡ Some db → IsTrue (list_all (λ g. source_fits (kept_alone db) db g.now.source) aggs.now) }
     ensures many { IfOk result (λ tables. length tables.items ≡ length aggs.now) }
     ensures ascend { IfOk result (λ tables. AllAscend tables.items) }
-    ensures told { (db : Db) → B.database base.old ≡ Some db → IfOk result (λ tables. AllStand db tables.items (map (λ g. g.now) aggs.now)) }
+    ensures known { (db : Db) → B.database base.old ≡ Some db → IfOk result (λ tables. AllStand db tables.items (map (λ g. g.now) aggs.now)) }
     ensures kept { B.database base.new ≡ B.database base.old }
     ensures stays { (s : Db) → B.schema base.old ≡ Some s → B.schema base.new ≡ Some s }
     ensures asked { (b : B) → B.asked b base.old → B.asked b base.new }
@@ -138,7 +138,7 @@ fn tables_of<B: Base>(
     Ok(tables)
 }
 
-/// The tables of a query's aggregates, for nobody in particular: one for each, at its slot, which
+/// The tables of a query's aggregates, unrestricted: one for each, at its slot, which
 /// stands for it. The source of each is read once, whole, and its rows are sorted by their by-values;
 /// the groups of each table ascend strictly by these. A fault is one of the database: where a group or
 /// a term has no value, the table says so.
@@ -148,15 +148,15 @@ pub fn settle<B: Base>(alloc: Global, base: &mut B, q: &Query) -> Result<Vec<Agg
     ensures many { IfOk result (λ tables. length tables.items ≡ length (query_aggregates q.now)) }
     ensures ascend { IfOk result (λ tables. AllAscend tables.items) }
     ensures targets { (db : Db) → B.database base.old ≡ Some db → IfOk result (λ tables. TargetsHaveTables tables.items db q.now) }
-    ensures qual { (db : Db) → B.database base.old ≡ Some db → IfOk result (λ tables. HasAllTables tables.items (aggregates db Free) (qual_of q.now)) }
+    ensures qual { (db : Db) → B.database base.old ≡ Some db → IfOk result (λ tables. HasAllTables tables.items (aggregates db Unrestricted) (qual_of q.now)) }
     ensures values { (db : Db) → B.database base.old ≡ Some db
-        → IfOk result (λ tables. (e : Env) → target_values (tabled tables.items) (targets_of q.now) e ≡ target_values (aggregates db Free) (targets_of q.now) e) }
+        → IfOk result (λ tables. (e : Env) → target_values (tabled tables.items) (targets_of q.now) e ≡ target_values (aggregates db Unrestricted) (targets_of q.now) e) }
     ensures truth { (db : Db) → B.database base.old ≡ Some db
-        → IfOk result (λ tables. (e : Env) → holds (tabled tables.items) (qual_of q.now) e ≡ holds (aggregates db Free) (qual_of q.now) e) }
+        → IfOk result (λ tables. (e : Env) → holds (tabled tables.items) (qual_of q.now) e ≡ holds (aggregates db Unrestricted) (qual_of q.now) e) }
     ensures rows { (db : Db) → B.database base.old ≡ Some db
-        → IfOk result (λ tables. (es : List Env) → rows_given (tabled tables.items) q.now es ≡ rows_given (aggregates db Free) q.now es) }
+        → IfOk result (λ tables. (es : List Env) → rows_given (tabled tables.items) q.now es ≡ rows_given (aggregates db Unrestricted) q.now es) }
     ensures lacks { (db : Db) → B.database base.old ≡ Some db
-        → IfOk result (λ tables. (es : List Env) → some_lacks (tabled tables.items) q.now es ≡ some_lacks (aggregates db Free) q.now es) }
+        → IfOk result (λ tables. (es : List Env) → some_lacks (tabled tables.items) q.now es ≡ some_lacks (aggregates db Unrestricted) q.now es) }
     ensures kept { B.database base.new ≡ B.database base.old }
     ensures stays { (s : Db) → B.schema base.old ≡ Some s → B.schema base.new ≡ Some s }
     ensures asked { (b : B) → B.asked b base.old → B.asked b base.new }

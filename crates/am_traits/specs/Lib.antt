@@ -1,5 +1,3 @@
 pub mod Causes
-pub mod Crashes
-pub mod InMemory
-pub mod Scans
-pub mod Told
+pub mod Pages
+pub mod Placed

@@ -1,30 +1,36 @@
-//! Why a call of a database failed.
+//! Why a call of a store of pages failed.
 
 ghost use Rattle.std.specs.Prelude.{◌≡◌};
-ghost use Rattle.am_traits.specs.declared.fault.BaseFault.TheVariants.{OutOfMemory as NoMemory};
+ghost use Rattle.am_traits.specs.Causes.{of_store};
+ghost use Rattle.am_traits.specs.declared.fault.StoreFault.TheVariants.{OutOfMemory as NoMemory};
 
+use base_trait::BaseFault;
 use calculus::OutOfMemory;
 
-/// Why a call of a database failed.
-#[derive(Clone, Copy, Debug, PartialEq, Eq)]
-pub enum BaseFault {
-    /// A call of the disk failed; its count rose.
+/// Why a call of a store of pages failed.
+#[derive(Clone, Copy, PartialEq, Eq)]
+pub enum StoreFault {
+    /// A call of the disk failed; the store's count of faults rose.
     Disk,
-    /// The pages stand for no database.
-    Damaged {
-        /// The file of the page that shows it.
-        file: u32,
-        /// This page's number in its file.
-        page: u32,
-    },
     /// No memory was left.
     OutOfMemory,
 }
 
-impl From<OutOfMemory> for BaseFault {
+impl From<OutOfMemory> for StoreFault {
     ghost from_gives = { λ _ fault. fault ≡ NoMemory };
 
-    fn from(_error: OutOfMemory) -> BaseFault {
-        BaseFault::OutOfMemory
+    fn from(_error: OutOfMemory) -> StoreFault {
+        StoreFault::OutOfMemory
+    }
+}
+
+impl From<StoreFault> for BaseFault {
+    ghost from_gives = { λ error fault. fault ≡ of_store error };
+
+    fn from(error: StoreFault) -> BaseFault {
+        match error {
+            StoreFault::Disk => BaseFault::Disk,
+            StoreFault::OutOfMemory => BaseFault::OutOfMemory,
+        }
     }
 }

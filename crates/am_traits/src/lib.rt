@@ -1,8 +1,11 @@
-//! What a database offers to those that ask and change it, whatever it is kept in.
+//! What pages are kept in, and what a file of rows offers.
 #![tactic(auto)]
 
-mod base;
 mod fault;
+mod method;
+mod store;
 
-pub use base::Base;
-pub use fault::BaseFault;
+pub use calculus::RelFile;
+pub use fault::StoreFault;
+pub use method::AccessMethod;
+pub use store::PageStore;

@@ -1,4 +1,4 @@
-use crate::made::{empty, is_laid};
+use crate::shared::{empty, is_laid};
 use std::alloc::Global;
 use std::process::Abort;
 use std::test::*;

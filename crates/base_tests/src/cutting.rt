@@ -1,6 +1,6 @@
 //! Trees cut down to what a user may see and change.
 
-use crate::made::{named, tree, untold};
+use crate::shared::{named, tree, unknown};
 use crate::shown::{digit, put, put_qual, put_query};
 use crate::view_texts::LAID;
 use calculus::{Checked, Update};
@@ -17,10 +17,10 @@ const MORE: [&[u8]; 2] = [
     b"\x06\x03ann\x05parts\x00\x00\x00\x03\x02\x00\x01\x00\x01\x03bob\x01\x00\x02\x00\x00\x00\x00\x00\x00\x00\x00\x00\x00\x09",
 ];
 
-/// A base that tells no database and knows `parts` and its views. ann owns all. bob may read the first two
+/// A base of which no database is known and knows `parts` and its views. ann owns all. bob may read the first two
 /// attributes of the parts that have the number 7, and what is said above.
-fn untold_parts<R: Abort>(rt: &R, alloc: Global) -> TestBase {
-    let mut base = untold(rt, alloc, &LAID);
+fn unknown_parts<R: Abort>(rt: &R, alloc: Global) -> TestBase {
+    let mut base = unknown(rt, alloc, &LAID);
     let given = base.give_all(alloc, &MORE);
     assert!(rt; given.is_ok());
     base
@@ -170,7 +170,7 @@ const CHANGED: [Case; 3] = [
 
 #[test]
 fn a_tree_is_cut_with_its_aggregates(rt: HostRuntime) {
-    let mut base = untold_parts(&rt, rt.alloc());
+    let mut base = unknown_parts(&rt, rt.alloc());
     for case in &ASKED {
         assert!(rt; is_as_said(&rt, rt.alloc(), &mut base, case));
     }
@@ -258,7 +258,7 @@ const UNCHANGED: [Refusal; 5] = [
 
 #[test]
 fn what_is_not_permitted_has_its_variable(rt: HostRuntime) {
-    let mut base = untold_parts(&rt, rt.alloc());
+    let mut base = unknown_parts(&rt, rt.alloc());
     for (user, bytes, var) in &UNREAD {
         assert!(rt; refused(&rt, rt.alloc(), &mut base, *user, *bytes) == Some(*var));
     }

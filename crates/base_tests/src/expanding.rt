@@ -1,6 +1,6 @@
-//! Queries with the views in them put in, for nobody in particular.
+//! Queries with the views in them expanded, unrestricted.
 
-use crate::made::{query, untold};
+use crate::shared::{query, unknown};
 use crate::shown::{put, put_query};
 use crate::view_texts::LAID;
 use cut_rules::{ExpandFault, expand};
@@ -21,15 +21,15 @@ const OF_FIVE: &[u8] =
 const OF_SIX: &[u8] =
     b"\x00\x06\x03ann\x04sums\x03ann\x04sums\x03ann\x04sums\x03ann\x04sums\x03ann\x04sums\x03ann\x05parts\x00\x01\x04pnum\x01\x05\x00\x05\x00\x05\x00\x05\x00\x05\x00\x05\x00\x00\x00\x00\x00\x00\x00\x00\x00\x00\x02\x00\x00\x02\x01\x00\x02\x02\x00\x02\x03\x00\x02\x04\x00\x02\x05\x00\x00";
 
-/// A base that tells no database and knows `parts` and its views, and `sums`.
-fn untold_sums<R: Abort>(rt: &R, alloc: Global) -> TestBase {
-    let mut base = untold(rt, alloc, &LAID);
+/// A base of which no database is known and knows `parts` and its views, and `sums`.
+fn unknown_sums<R: Abort>(rt: &R, alloc: Global) -> TestBase {
+    let mut base = unknown(rt, alloc, &LAID);
     let given = base.give(alloc, SUMS);
     assert!(rt; given.is_ok());
     base
 }
 
-/// How many variables a query has once its views are put in, or would have, where they are too many.
+/// How many variables a query has once its views are expanded, or would have, where they are too many.
 fn expanded<R: Abort>(
     rt: &R,
     alloc: Global,
@@ -38,25 +38,25 @@ fn expanded<R: Abort>(
 ) -> Result<usize, u32> {
     let query = query(rt, alloc, bytes);
     let made = expand(alloc, query, base);
-    let told = match &made {
+    let known = match &made {
         Ok(query) => Ok(query.vars.items().len()),
         Err(ExpandFault::TooMany { vars }) => Err(*vars),
         Err(_) => Err(0),
     };
     drop(made);
-    told
+    known
 }
 
 #[test]
 fn more_than_fifty_variables_are_too_many(rt: HostRuntime) {
-    let mut base = untold_sums(&rt, rt.alloc());
+    let mut base = unknown_sums(&rt, rt.alloc());
     assert!(rt; expanded(&rt, rt.alloc(), &mut base, OF_FIVE) == Ok(50));
     assert!(rt; expanded(&rt, rt.alloc(), &mut base, OF_SIX) == Err(51));
 }
 
-/// A query with its views put in, as bytes.
+/// A query with its views expanded, as bytes.
 fn shown<R: Abort>(rt: &R, alloc: Global, bytes: &[u8]) -> Vec<u8> {
-    let mut base = untold_sums(rt, alloc);
+    let mut base = unknown_sums(rt, alloc);
     let query = query(rt, alloc, bytes);
     let made = expand(alloc, query, &mut base);
     drop(base);

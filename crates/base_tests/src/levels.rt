@@ -1,6 +1,6 @@
 //! Views that stand on views, each of which names the one below ten times.
 
-use crate::made::{is_laid, laid, query};
+use crate::shared::{is_laid, laid, query};
 use crate::shown::put;
 use plain_base::DbPlain;
 use std::alloc::Global;
@@ -58,12 +58,12 @@ const OF_PARTS: Lowest = Lowest {
 /// What is said of a tower of such views.
 #[derive(Clone, Copy, PartialEq, Eq)]
 struct Tower {
-    /// How many views are laid, up to the first that isn't.
+    /// How many views are applied, up to the first that isn't.
     laid: usize,
     /// Whether a view over the fifteenth would have a level that is too high, and one over the
     /// sixteenth.
     is_high: (bool, bool),
-    /// The variables that a query over the sixteenth uses once the views are put in, and those that
+    /// The variables that a query over the sixteenth uses once the views are expanded, and those that
     /// it lists.
     variables: (u64, u64),
     /// The size of a query over the sixteenth.
@@ -107,8 +107,8 @@ fn view<R: Abort>(
     bytes
 }
 
-/// Lays the views; says how many are laid, up to the first that isn't.
-fn lay_views<R: Abort>(rt: &R, alloc: Global, base: &mut DbPlain, lowest: Lowest) -> usize {
+/// Applies the views; says how many are applied, up to the first that isn't.
+fn apply_views<R: Abort>(rt: &R, alloc: Global, base: &mut DbPlain, lowest: Lowest) -> usize {
     let mut count = 0usize;
     let mut below = None;
     for key in KEYS {
@@ -145,10 +145,10 @@ fn counted<R: Abort>(
     (high, used, listed, size)
 }
 
-/// Lays the views in a new database, and asks for what is said of them.
+/// Applies the views in a new database, and asks for what is said of them.
 fn measured<R: Abort>(rt: &R, alloc: Global, lowest: Lowest) -> Tower {
     let mut base = laid(rt, alloc, &[PARTS]);
-    let laid = lay_views(rt, alloc, &mut base, lowest);
+    let laid = apply_views(rt, alloc, &mut base, lowest);
     let (low, _, _, _) = counted(rt, alloc, &mut base, FIFTEENTH, lowest.kind);
     let (high, used, listed, size) = counted(rt, alloc, &mut base, SIXTEENTH, lowest.kind);
     drop(base);

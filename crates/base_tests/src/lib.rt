@@ -11,8 +11,6 @@ mod expanding;
 #[cfg(test)]
 mod levels;
 #[cfg(test)]
-mod made;
-#[cfg(test)]
 mod new_database;
 #[cfg(test)]
 mod plans;
@@ -20,6 +18,8 @@ mod plans;
 mod remembered;
 #[cfg(test)]
 mod ruled;
+#[cfg(test)]
+mod shared;
 #[cfg(test)]
 mod shown;
 #[cfg(test)]

@@ -1,5 +1,5 @@
-use crate::made::{empty, key_of};
-use am_traits::{Base, BaseFault};
+use crate::shared::{empty, key_of};
+use base_trait::{Base, BaseFault};
 use calculus::{List, Name, OutOfMemory, Place, Probe, RelKey};
 use plain_base::DbPlain;
 use std::alloc::Global;

@@ -1,9 +1,9 @@
-//! What utilities plan over a database in memory, where what they plan is laid, and what refuses them.
+//! What utilities plan over a database in memory, where what they plan is applied, and what refuses them.
 
 ghost use Rattle.std.specs.Prelude.{◌≡◌, false};
 ghost use Rattle.plan_laws.specs.Fitting.{is_copy};
 
-use crate::made::{laid, named, tree, try_lay};
+use crate::shared::{laid, named, tree, try_apply};
 use crate::shown::put;
 use calculus::{Checked, DbChange, Utility};
 use plain_base::DbPlain;
@@ -41,7 +41,7 @@ fn is_said<R: Abort>(rt: &R, alloc: Global, change: &DbChange, said: &[u8]) -> b
     is_said
 }
 
-/// Whether what is planned of this work is as said, and may be laid where it is a change.
+/// Whether what is planned of this work is as said, and may be applied where it is a change.
 fn is_work_planned<R: Abort>(
     rt: &R,
     alloc: Global,
@@ -58,7 +58,7 @@ fn is_work_planned<R: Abort>(
     drop(user);
     match (&planned, said) {
         (Ok(change), Ok(said)) => {
-            let laid = try_lay(alloc, base, change);
+            let laid = try_apply(alloc, base, change);
             is_said(rt, alloc, change, said) && laid.expect(rt, "an answer")
         }
         (Err(fault), Err(number)) => *fault == UtilFault::No(number),
@@ -66,7 +66,7 @@ fn is_work_planned<R: Abort>(
     }
 }
 
-/// Whether what is planned of what these bytes spell is as said, and may be laid where it is a change.
+/// Whether what is planned of what these bytes spell is as said, and may be applied where it is a change.
 fn is_planned<R: Abort>(rt: &R, alloc: Global, base: &mut DbPlain, case: &Case) -> bool {
     let (user, work, said) = *case;
     let tree = tree(rt, alloc, work);

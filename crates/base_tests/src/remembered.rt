@@ -1,4 +1,4 @@
-use crate::made::{named, query, tree};
+use crate::shared::{named, query, tree};
 use crate::shown::put;
 use crate::tower::{ten_over, tower};
 use cut_rules::{cut_permits, expand};

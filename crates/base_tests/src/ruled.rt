@@ -1,4 +1,4 @@
-use crate::made::{laid, tree};
+use crate::shared::{laid, tree};
 use calculus::{Checked, CmpOp, QQual, QTerm, TryCopy, Update};
 use cut_rules::add_rules;
 use std::alloc::Global;

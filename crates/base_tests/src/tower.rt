@@ -1,6 +1,6 @@
 //! Views, each over the one below it ten times.
 
-use crate::made::untold;
+use crate::shared::unknown;
 use crate::shown::put;
 use std::alloc::Global;
 use std::process::Abort;
@@ -45,9 +45,9 @@ fn view<R: Abort>(rt: &R, alloc: Global, letter: u8) -> Vec<u8> {
     bytes
 }
 
-/// A base that tells no database: 16 views, `a` to `p`, and the permit.
+/// A base of which no database is known: 16 views, `a` to `p`, and the permit.
 pub(crate) fn tower<R: Abort>(rt: &R, alloc: Global) -> TestBase {
-    let mut base = untold(rt, alloc, &[LOWEST, PERMIT]);
+    let mut base = unknown(rt, alloc, &[LOWEST, PERMIT]);
     for letter in b'b'..=b'p' {
         let bytes = view(rt, alloc, letter);
         let given = base.give(alloc, &bytes);

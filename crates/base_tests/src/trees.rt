@@ -1,4 +1,4 @@
-use crate::made::{laid, named, tree};
+use crate::shared::{laid, named, tree};
 use calculus::{Chars, Checked, CopyCol, CopyForm, List, RelKey, Utility};
 use plain_base::DbPlain;
 use std::alloc::Global;

@@ -1,15 +1,15 @@
-use crate::made::{key_of, laid, named};
+use crate::shared::{key_of, laid, named};
 use crate::shown::{put, put_qual, put_terms, put_vars};
 use crate::tower::tower;
-use am_traits::Base;
+use base_trait::Base;
 use calculus::{Name, QQual, RelKey};
 use plain_base::DbPlain;
 use std::alloc::Global;
 use std::process::Abort;
 use std::test::*;
-use view_expand::{TextFault, text_within};
+use view_expand::{ExpansionFault, expansion_within};
 use view_sizes::variables_within;
-use view_text::Text;
+use view_text::Expansion;
 
 /// A database of ann's: `parts`, bob's permit, and the views, each over those before it.
 pub(crate) const LAID: [&[u8]; 8] = [
@@ -40,7 +40,7 @@ fn put_conditions<R: Abort>(rt: &R, written: &mut Vec<u8>, conditions: &[QQual])
 
 /// A text as bytes: what its variables range over, its terms, and its conditions; a star for the terms
 /// where each attribute is its own.
-fn put_text<R: Abort>(rt: &R, written: &mut Vec<u8>, text: &Text) {
+fn put_text<R: Abort>(rt: &R, written: &mut Vec<u8>, text: &Expansion) {
     put_vars(rt, written, text.vars.items());
     put(rt, written, b"|");
     match &text.terms {
@@ -52,10 +52,10 @@ fn put_text<R: Abort>(rt: &R, written: &mut Vec<u8>, text: &Text) {
 }
 
 /// An answer as bytes.
-fn put_answer<R: Abort>(rt: &R, written: &mut Vec<u8>, answer: &Result<Text, TextFault>) {
+fn put_answer<R: Abort>(rt: &R, written: &mut Vec<u8>, answer: &Result<Expansion, ExpansionFault>) {
     match answer {
         Ok(text) => put_text(rt, written, text),
-        Err(TextFault::NoPermit) => put(rt, written, b"no permit"),
+        Err(ExpansionFault::NoPermit) => put(rt, written, b"no permit"),
         Err(_) => put(rt, written, b"a fault"),
     }
 }
@@ -68,11 +68,11 @@ fn asked<B: Base>(
     key: &RelKey,
     attrs: &[u8],
     levels: u8,
-) -> Result<Text, TextFault> {
+) -> Result<Expansion, ExpansionFault> {
     if variables_within(alloc, base, key, levels)? > 256 {
-        return Err(TextFault::TooMany);
+        return Err(ExpansionFault::TooMany);
     }
-    text_within(alloc, base, who, key, attrs, levels)
+    expansion_within(alloc, base, who, key, attrs, levels)
 }
 
 /// One who asks, what for, and the text.
@@ -134,7 +134,7 @@ fn a_text_is_over_relations_with_what_is_permitted(rt: HostRuntime) {
 fn in_tower<R: Abort>(rt: &R, alloc: Global, letter: &[u8], levels: u8) -> Vec<u8> {
     let key = key_of(rt, alloc, b"ann", letter);
     let mut tower = tower(rt, alloc);
-    let answer = text_within(alloc, &mut tower, None, &key, &[0], levels);
+    let answer = expansion_within(alloc, &mut tower, None, &key, &[0], levels);
     drop(tower);
     drop(key);
     let mut written = Vec::new(alloc);

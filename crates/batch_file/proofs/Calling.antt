@@ -11,29 +11,29 @@ use Rattle.disk_model.proofs.Addresses.{is_at_self, off_at}
 use Rattle.batch_file.specs.declared.fault.Restored.TheVariants.{Nothing, Redone}
 use Rattle.batch_file.specs.declared.stage.Batch.{Batch}
 use Rattle.batch_file.specs.Layout.{Entries, addr, address_in, entries, first_byte, is_head, is_place, number_at}
-use Rattle.batch_file.specs.Order.{is_own, is_placing, IsBatch, Adds, Writes, Completes, Heads, Places, Shuts, Lays, Opens, Restores}
+use Rattle.batch_file.specs.Order.{is_own, is_placing, IsBatch, Adds, Writes, Completes, Heads, Places, Shuts, Applies, Opens, Restores}
 use Rattle.batch_file.specs.Staged.{completed, staged, Holds}
 use Rattle.batch_file.proofs.Adding.{is_next, staged_more, holds_more, all_staged, all_whole, IsNext}
 use Rattle.batch_file.proofs.Form.{no_damage_from, same_entries}
 
-abbrev Told : Type 0
-Told = Option (List Call)
+abbrev KnownCalls : Type 0
+KnownCalls = Option (List Call)
 
-pub came_none : (a b : Told) → b ≡ a → Came a b []
+pub came_none : (a b : KnownCalls) → b ≡ a → Came a b []
 came_none None b same = tt
 came_none (Some calls) b same = same ∙ ap Some (sym (append-nil calls))
 
-pub came_then : (a b c : Told) (xs ys : List Call) → Came a b xs → Came b c ys → Came a c (xs ++ ys)
+pub came_then : (a b c : KnownCalls) (xs ys : List Call) → Came a b xs → Came b c ys → Came a c (xs ++ ys)
 came_then None b c xs ys first then_ = tt
 came_then (Some calls) b c xs ys first then_ =
-    let behind : Came (Some (calls ++ xs)) c ys = subst (λ (o : Told). Came o c ys) first then_ in
+    let behind : Came (Some (calls ++ xs)) c ys = subst (λ (o : KnownCalls). Came o c ys) first then_ in
     behind ∙ ap Some (append_assoc calls xs ys)
 
-pub came_reads : (a b c : Told) (xs : List Call) → Came a b xs → c ≡ b → Came a c xs
-came_reads a b c xs came same = subst (λ (o : Told). Came a o xs) (sym same) came
+pub came_reads : (a b c : KnownCalls) (xs : List Call) → Came a b xs → c ≡ b → Came a c xs
+came_reads a b c xs came same = subst (λ (o : KnownCalls). Came a o xs) (sym same) came
 
-pub reads_came : (a b c : Told) (xs : List Call) → b ≡ a → Came b c xs → Came a c xs
-reads_came a b c xs same came = subst (λ (o : Told). Came o c xs) same came
+pub reads_came : (a b c : KnownCalls) (xs : List Call) → b ≡ a → Came b c xs → Came a c xs
+reads_came a b c xs same came = subst (λ (o : KnownCalls). Came o c xs) same came
 
 pub seen_behind : (m : Image) (xs ys : List Call) → seen_from m (xs ++ ys) ≡ seen_from (seen_from m xs) ys
 seen_behind m [] ys = refl
@@ -120,7 +120,7 @@ module _ (batch : Batch) (head : List ℕ) (form : is_head (Some head) ≡ true)
   }
 
 -- the head, a sync, the gate, a sync
-pub opens : (h0 h1 h2 h3 h4 : Told) (head gate : List ℕ) (n : ℕ) → Came h0 h1 (Write (addr 2 0) head ∷ []) → Came h1 h2 (Sync ∷ []) → Came h2 h3 (Write (addr 1 0) gate ∷ []) → Came h3 h4 (Sync ∷ [])
+pub opens : (h0 h1 h2 h3 h4 : KnownCalls) (head gate : List ℕ) (n : ℕ) → Came h0 h1 (Write (addr 2 0) head ∷ []) → Came h1 h2 (Sync ∷ []) → Came h2 h3 (Write (addr 1 0) gate ∷ []) → Came h3 h4 (Sync ∷ [])
     → is_head (Some head) ≡ true → number_at head 8 ≡ n → first_byte (Some gate) ≡ 1 → CameSo h0 h4 (Opens (Heads n))
 opens h0 h1 h2 h3 h4 head gate n one two three four form size is_open = (
   Write (addr 2 0) head ∷ Sync ∷ Write (addr 1 0) gate ∷ Sync ∷ [],
@@ -136,7 +136,7 @@ opens h0 h1 h2 h3 h4 head gate n one two three four form size is_open = (
 )
 
 -- one page more, after calls that only read
-pub places_more : (h0 h1 h2 h3 : Told) (n : ℕ) (a : Addr) (page : List ℕ) → CameSo h0 h1 (Places n) → h2 ≡ h1 → Came h2 h3 (Write a page ∷ []) → is_place a ≡ true → CameSo h0 h3 (Places (n + 1))
+pub places_more : (h0 h1 h2 h3 : KnownCalls) (n : ℕ) (a : Addr) (page : List ℕ) → CameSo h0 h1 (Places n) → h2 ≡ h1 → Came h2 h3 (Write a page ∷ []) → is_place a ≡ true → CameSo h0 h3 (Places (n + 1))
 places_more h0 h1 h2 h3 n a page so_far same came place = (
   so_far.0 ++ Write a page ∷ [],
   came_then h0 h1 h3 so_far.0 (Write a page ∷ []) so_far.1 (reads_came h1 h2 h3 (Write a page ∷ []) same came),
@@ -147,7 +147,7 @@ places_more h0 h1 h2 h3 n a page so_far same came place = (
 )
 
 -- the pages, a sync, the gate, a sync
-pub shuts : (h0 h1 h2 h3 h4 : Told) (gate : List ℕ) (n : ℕ) → CameSo h0 h1 (Places n) → Came h1 h2 (Sync ∷ []) → Came h2 h3 (Write (addr 1 0) gate ∷ []) → Came h3 h4 (Sync ∷ [])
+pub shuts : (h0 h1 h2 h3 h4 : KnownCalls) (gate : List ℕ) (n : ℕ) → CameSo h0 h1 (Places n) → Came h1 h2 (Sync ∷ []) → Came h2 h3 (Write (addr 1 0) gate ∷ []) → Came h3 h4 (Sync ∷ [])
     → first_byte (Some gate) ≢ 1 → CameSo h0 h4 (Shuts n)
 shuts h0 h1 h2 h3 h4 gate n placed two three four is_shut = (
   placed.0 ++ Sync ∷ Write (addr 1 0) gate ∷ Sync ∷ [],
@@ -157,8 +157,8 @@ shuts h0 h1 h2 h3 h4 gate n placed two three four is_shut = (
 )
 
 -- what opens the gate, and what shuts it
-pub lays : (h0 h1 h2 : Told) (Own : List Call → Type 0) (n : ℕ) → CameSo h0 h1 (Opens Own) → CameSo h1 h2 (Shuts n) → CameSo h0 h2 (Lays Own n)
-lays h0 h1 h2 Own n opened shut =
+pub applies : (h0 h1 h2 : KnownCalls) (Own : List Call → Type 0) (n : ℕ) → CameSo h0 h1 (Opens Own) → CameSo h1 h2 (Shuts n) → CameSo h0 h2 (Applies Own n)
+applies h0 h1 h2 Own n opened shut =
     let o = opened.2 in (
       opened.0 ++ shut.0,
       came_then h0 h1 h2 opened.0 shut.0 opened.1 shut.1,
@@ -174,8 +174,8 @@ lays h0 h1 h2 Own n opened shut =
     )
 
 -- more calls before
-pub lays_behind : (h0 h1 h2 : Told) (first : List Call) (Own More : List Call → Type 0) (n : ℕ) → Came h0 h1 first → CameSo h1 h2 (Lays Own n) → ((own : List Call) → Own own → More (first ++ own)) → CameSo h0 h2 (Lays More n)
-lays_behind h0 h1 h2 first Own More n came laid into =
+pub applies_behind : (h0 h1 h2 : KnownCalls) (first : List Call) (Own More : List Call → Type 0) (n : ℕ) → Came h0 h1 first → CameSo h1 h2 (Applies Own n) → ((own : List Call) → Own own → More (first ++ own)) → CameSo h0 h2 (Applies More n)
+applies_behind h0 h1 h2 first Own More n came laid into =
     let l = laid.2 in (
       first ++ laid.0,
       came_then h0 h1 h2 first laid.0 came laid.1,
@@ -191,10 +191,10 @@ lays_behind h0 h1 h2 first Own More n came laid into =
     )
 
 -- the whole of a batch that was begun
-pub finishes : (h0 h1 h2 : Told) (batch : Batch) (due : Bool) → (batch.count % 128 ≢ 0 → IsTrue due) → Came h0 h1 (written due (addr 3 (batch.count / 128)) batch.addresses)
-    → CameSo h1 h2 (Lays (Heads batch.count) batch.count) → CameSo h0 h2 (Lays (Completes batch) batch.count)
+pub finishes : (h0 h1 h2 : KnownCalls) (batch : Batch) (due : Bool) → (batch.count % 128 ≢ 0 → IsTrue due) → Came h0 h1 (written due (addr 3 (batch.count / 128)) batch.addresses)
+    → CameSo h1 h2 (Applies (Heads batch.count) batch.count) → CameSo h0 h2 (Applies (Completes batch) batch.count)
 finishes h0 h1 h2 batch due rest came laid =
-    lays_behind h0 h1 h2 (written due (addr 3 (batch.count / 128)) batch.addresses) (Heads batch.count) (Completes batch) batch.count came laid
+    applies_behind h0 h1 h2 (written due (addr 3 (batch.count / 128)) batch.addresses) (Heads batch.count) (Completes batch) batch.count came laid
     (λ own heads.
     subst (λ (l : List Call). Completes batch (written due (addr 3 (batch.count / 128)) batch.addresses ++ l)) (sym heads.call)
     (completes batch heads.head heads.form heads.size due rest))
@@ -205,10 +205,10 @@ pub record Gathers (batch : Batch) (cs : Entries) (calls : List Call) : Type 0 w
   pub held : (m : Image) → Holds (seen_from m calls) batch
   pub listed : (m : Image) → staged (seen_from m calls) batch ≡ cs
 
-pub gathers_none : (h : Told) (batch : Batch) → ((m : Image) → Holds m batch) → ((m : Image) → staged m batch ≡ []) → CameSo h h (Gathers batch [])
+pub gathers_none : (h : KnownCalls) (batch : Batch) → ((m : Image) → Holds m batch) → ((m : Image) → staged m batch ≡ []) → CameSo h h (Gathers batch [])
 gathers_none h batch held none = ([], came_none h h refl, record { own = refl; held = held; listed = none })
 
-pub gathers_more : (h0 h1 h2 : Told) (batch after : Batch) (cs more new : Entries) → CameSo h0 h1 (Gathers batch cs) → CameSo h1 h2 (Adds batch after new) → more ≡ cs ++ new → CameSo h0 h2 (Gathers after more)
+pub gathers_more : (h0 h1 h2 : KnownCalls) (batch after : Batch) (cs more new : Entries) → CameSo h0 h1 (Gathers batch cs) → CameSo h1 h2 (Adds batch after new) → more ≡ cs ++ new → CameSo h0 h2 (Gathers after more)
 gathers_more h0 h1 h2 batch after cs more new so_far adds is =
     let g = so_far.2 in
     let a = adds.2 in (
@@ -223,11 +223,11 @@ gathers_more h0 h1 h2 batch after cs more new so_far adds is =
       },
     )
 
-pub commits : (h0 h1 h2 : Told) (batch : Batch) (cs : Entries) (n : ℕ) → CameSo h0 h1 (Gathers batch cs) → CameSo h1 h2 (Lays (Completes batch) n) → CameSo h0 h2 (Lays (Writes cs) n)
+pub commits : (h0 h1 h2 : KnownCalls) (batch : Batch) (cs : Entries) (n : ℕ) → CameSo h0 h1 (Gathers batch cs) → CameSo h1 h2 (Applies (Completes batch) n) → CameSo h0 h2 (Applies (Writes cs) n)
 commits h0 h1 h2 batch cs n gathered laid =
     let first = gathered.0 in
     let g = gathered.2 in
-    lays_behind h0 h1 h2 first (Completes batch) (Writes cs) n gathered.1 laid
+    applies_behind h0 h1 h2 first (Completes batch) (Writes cs) n gathered.1 laid
     (λ own ends. record {
       own = all_behind is_own first own g.own ends.own;
       whole = λ m.
@@ -236,11 +236,11 @@ commits h0 h1 h2 batch cs n gathered laid =
     })
 
 -- a restore that found the gate shut
-pub restores_none : (h0 h1 h2 : Told) → Came h0 h1 (Sync ∷ []) → h2 ≡ h1 → CameSo h0 h2 (Restores Nothing)
+pub restores_none : (h0 h1 h2 : KnownCalls) → Came h0 h1 (Sync ∷ []) → h2 ≡ h1 → CameSo h0 h2 (Restores Nothing)
 restores_none h0 h1 h2 came same = (Sync ∷ [], came_reads h0 h1 h2 (Sync ∷ []) came same, refl)
 
 -- a restore that found it open
-pub restores_all : (h0 h1 h2 h3 h4 : Told) (n : ℕ) → Came h0 h1 (Sync ∷ []) → h2 ≡ h1 → h3 ≡ h2 → CameSo h3 h4 (Shuts n) → CameSo h0 h4 (Restores (Redone n))
+pub restores_all : (h0 h1 h2 h3 h4 : KnownCalls) (n : ℕ) → Came h0 h1 (Sync ∷ []) → h2 ≡ h1 → h3 ≡ h2 → CameSo h3 h4 (Shuts n) → CameSo h0 h4 (Restores (Redone n))
 restores_all h0 h1 h2 h3 h4 n came one two shut = (
   Sync ∷ shut.0,
   came_then h0 h1 h4 (Sync ∷ []) shut.0 came (reads_came h1 h3 h4 shut.0 (two ∙ one) shut.1),

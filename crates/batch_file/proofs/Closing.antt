@@ -6,7 +6,7 @@ use Rattle.disk_model.proofs.Moments.{goes_on, image_near, syncs_on}
 use Rattle.batch_file.specs.Layout.{addr, entries}
 use Rattle.batch_file.specs.Redone.{laid, is_kept, kept, redone}
 use Rattle.batch_file.specs.OnDisk.{IsOpen}
-use Rattle.batch_file.proofs.Lays.{kept_by, kept_not_gate}
+use Rattle.batch_file.proofs.Applies.{kept_by, kept_not_gate}
 use Rattle.batch_file.proofs.Placing.{redone_end, redone_is}
 
 module _ {S : Type 0} (seen : S → Image) (touched : S → Addr → Type 0) (clock : S → ℕ) (left_since : S → ℕ → Image → Type 0)

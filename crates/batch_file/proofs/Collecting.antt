@@ -7,7 +7,7 @@ use Rattle.batch_file.specs.declared.stage.Batch.{Batch}
 use Rattle.batch_file.specs.Layout.{Entries, is_place}
 use Rattle.batch_file.specs.OnDisk.{InBatch, Apart, SameOutside}
 use Rattle.batch_file.specs.Staged.{staged, Holds}
-use Rattle.batch_file.proofs.Lays.{Among}
+use Rattle.batch_file.proofs.Applies.{Among}
 use Rattle.batch_file.proofs.Outside.{apart_starts, apart_joins}
 
 -- changes at places that a batch may name

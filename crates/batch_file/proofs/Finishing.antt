@@ -6,7 +6,7 @@ use Rattle.disk_model.proofs.Moments.{started, joins}
 use Rattle.batch_file.specs.Layout.{Entries, addr, gate, entries, first_byte, is_place}
 use Rattle.batch_file.specs.Redone.{IsShut, laid, kept, redone}
 use Rattle.batch_file.specs.OnDisk.{IsWhole, BeforeOrAfter}
-use Rattle.batch_file.proofs.Lays.{Among, latest_off, redone_shut}
+use Rattle.batch_file.proofs.Applies.{Among, latest_off, redone_shut}
 use Rattle.batch_file.proofs.Form.{named, place_off}
 
 -- changes at places that a batch may name leave the gate as it is
@@ -22,13 +22,13 @@ module _ {S : Type 0} (seen : S → Image) (touched : S → Addr → Type 0) (cl
   nothing_run old cs only_now = started seen touched clock left_since old _ (λ m left. (m, only_now m left, inl refl))
 
   -- the gate was opened, and what follows keeps the redone
-  pub lay_run : (old mid new : S) (cs : Entries) → LeavesOnly clock left_since old mid (BeforeOrAfter (seen old) (touched old) cs) → redone (seen mid) ≡ redone (laid cs (seen old))
+  pub apply_run : (old mid new : S) (cs : Entries) → LeavesOnly clock left_since old mid (BeforeOrAfter (seen old) (touched old) cs) → redone (seen mid) ≡ redone (laid cs (seen old))
       → LeavesOnly clock left_since mid new (λ m. redone m ≡ redone (seen mid)) → LeavesOnly clock left_since old new (BeforeOrAfter (seen old) (touched old) cs)
-  lay_run old mid new cs first is second =
+  apply_run old mid new cs first is second =
       joins seen touched clock left_since old mid new _ _ first second (λ m same. (seen old, (λ b calm. refl), inr (same ∙ is)))
 
-  pub lay_done : (old mid new : S) (n : ℕ) → IsShut (seen old) (touched old) → IsWhole (seen old) n → redone (seen mid) ≡ redone (laid (entries (seen old) n) (seen old))
+  pub apply_done : (old mid new : S) (n : ℕ) → IsShut (seen old) (touched old) → IsWhole (seen old) n → redone (seen mid) ≡ redone (laid (entries (seen old) n) (seen old))
       → redone (seen mid) ≡ Some (kept (seen new)) → kept (seen new) ≡ kept (laid (entries (seen old) n) (seen old))
-  lay_done old mid new n shut whole is done =
+  apply_done old mid new n shut whole is done =
       some_same _ _ (sym done ∙ is ∙ redone_shut (laid (entries (seen old) n) (seen old))
       (λ e. shut (seen old) (λ b calm. refl) (sym (gate_stays (entries (seen old) n) (seen old) (named (seen old) n whole.addresses)) ∙ e)))

@@ -5,7 +5,7 @@ use Rattle.disk_model.specs.declared.disk.Addr.{Addr}
 use Rattle.disk_model.specs.Disk.{Image}
 use Rattle.batch_file.specs.Layout.{addr, count, is_head, is_lawful, is_lawful_in, has_image, or_empty, address_in, entry, entries, entries_of, is_place, Entries}
 use Rattle.batch_file.specs.Redone.{next_failing, first_failing, damage_of, damage}
-use Rattle.batch_file.proofs.Lays.{Among}
+use Rattle.batch_file.proofs.Applies.{Among}
 
 pub among-append : (xs ys : Entries) (b : Addr) → Among (xs ++ ys) b → Among xs b ⊎ Among ys b
 among-append [] ys b h = inr h

@@ -5,7 +5,7 @@ pub mod Closing
 pub mod Collecting
 pub mod Finishing
 pub mod Form
-pub mod Lays
+pub mod Applies
 pub mod Listing
 pub mod Opening
 pub mod Outside

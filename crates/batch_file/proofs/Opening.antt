@@ -6,7 +6,7 @@ use Rattle.disk_model.proofs.Moments.{started, goes_on, image_near, image_back, 
 use Rattle.batch_file.specs.Layout.{addr, gate, count, count_in, is_head, entries, first_byte, number_at}
 use Rattle.batch_file.specs.Redone.{IsShut, damage, latest, laid, is_kept, kept, redone}
 use Rattle.batch_file.specs.OnDisk.{InBatch, BeforeOrAfter, IsWhole, IsOpen}
-use Rattle.batch_file.proofs.Lays.{kept_by, kept_not_gate, kept_not_batch, redone_shut, redone_open, latest_off}
+use Rattle.batch_file.proofs.Applies.{kept_by, kept_not_gate, kept_not_batch, redone_shut, redone_open, latest_off}
 use Rattle.batch_file.proofs.Form.{off_batch, no_damage_from, same_entries, SameEntries}
 
 pub in_batch_or_off : (b : Addr) → InBatch b ⊎ (InBatch b → ⊥)

@@ -6,7 +6,7 @@ use Rattle.disk_model.proofs.Moments.{started, goes_on, reads_on, joins, weaker,
 use Rattle.batch_file.specs.Layout.{Entries, addr, gate, is_place}
 use Rattle.batch_file.specs.Redone.{IsShut, laid, latest, kept, redone}
 use Rattle.batch_file.specs.OnDisk.{InBatch, Apart, BeforeOrAfter, SameOutside}
-use Rattle.batch_file.proofs.Lays.{Among, kept_by, kept_not_batch}
+use Rattle.batch_file.proofs.Applies.{Among, kept_by, kept_not_batch}
 use Rattle.batch_file.proofs.Finishing.{gate_stays}
 use Rattle.batch_file.proofs.Opening.{in_batch_or_off, redone_outside, gate_outside}
 
@@ -74,7 +74,7 @@ module _ {S : Type 0} (seen : S → Image) (touched : S → Addr → Type 0) (cl
           let back = outside_back old now so_far.change from.0 from.1 in
           (back.0, back.1, ⊎_elim (λ e. inl (e ∙ redone_outside from.0 back.0 (shut back.0 back.1) back.2)) (λ e. inr (e ∙ laid_outside from.0 back.0 (shut back.0 back.1) back.2)) from.2)
 
-      -- and then the batch is laid
+      -- and then the batch is applied
       pub then_run : (new : S) → LeavesOnly clock left_since now new (BeforeOrAfter (seen now) (touched now) cs) → LeavesOnly clock left_since old new (BeforeOrAfter (seen old) (touched old) cs)
       then_run new last = joins seen touched clock left_since old now new _ _ (gives_up so_far) last later_before
 

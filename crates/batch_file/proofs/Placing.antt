@@ -1,4 +1,4 @@
--- How a batch whose gate is open is laid on the disk, and the gate shut.
+-- How a batch whose gate is open is applied to the disk, and the gate shut.
 use Rattle.std.proofs.Common.{◌≡◌, ◌≢◌, ◌⊎◌, inl, inr, ℕ, ◌+◌, ◌/◌, ◌<◌, ◌≤◌, Bool, true, List, [], ◌∷◌, Option, Some, refl, sym, ◌∙◌, ap, subst, arith, add-one, if◌then◌else◌}
 use Rattle.disk_model.specs.declared.disk.Addr.{Addr}
 use Rattle.disk_model.specs.Disk.{Image, IsImage, Changes, OnlyReads, Elapses, LeavesOnly}
@@ -10,10 +10,10 @@ use Rattle.batch_file.specs.Redone.{latest, laid, kept, redone}
 use Rattle.batch_file.specs.OnDisk.{InBatch, IsOpen}
 use Rattle.std.proofs.Common.{is_some}
 use Rattle.batch_file.specs.Faults.{IsBuffered}
-use Rattle.batch_file.proofs.Lays.{Among, latest-append, latest_off, latest_twice, latest_same, kept_by, kept_not_gate, redone_shut, redone_open, same_batch, SameBatch}
+use Rattle.batch_file.proofs.Applies.{Among, latest-append, latest_off, latest_twice, latest_same, kept_by, kept_not_gate, redone_shut, redone_open, same_batch, SameBatch}
 use Rattle.batch_file.proofs.Form.{sound, IsSound, off_batch, among_entry}
 
--- what an image stands for while the batch of M is laid
+-- what an image stands for while the batch of M is applied
 pub redone_mid : (M m : Image) (touched : Addr → Type 0) (n : ℕ) → IsOpen M touched n → ((b : Addr) → (Among (entries M n) b → ⊥) → m b ≡ M b) → redone m ≡ redone M
 redone_mid M m touched n is near =
     let whole = sound M n is.no_damage is.size in
@@ -27,7 +27,7 @@ redone_mid M m touched n is near =
     ∙ ap (λ cs. Some (kept (laid cs m))) listed ∙ ap Some laid_same ∙ sym (ap (λ cs. Some (kept (laid cs M))) listed_M)
     ∙ sym (redone_open M is.gate_open is.no_damage)
 
--- and once it is laid, whatever stands at the gate
+-- and once it is applied, whatever stands at the gate
 pub redone_end : (M m : Image) (touched : Addr → Type 0) (n : ℕ) → IsOpen M touched n → ((b : Addr) → (b ≢ addr 1 0) → m b ≡ laid (entries M n) M b) → redone m ≡ redone M
 redone_end M m touched n is near = elim (open_or_shut (gate m)) [
   | inl gate_is ↦

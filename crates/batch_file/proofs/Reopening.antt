@@ -6,7 +6,7 @@ use Rattle.disk_model.proofs.Moments.{started, syncs_on, reads_on, joins}
 use Rattle.batch_file.specs.Layout.{gate}
 use Rattle.batch_file.specs.Redone.{kept, redone}
 use Rattle.batch_file.specs.OnDisk.{SameRedone}
-use Rattle.batch_file.proofs.Lays.{redone_shut}
+use Rattle.batch_file.proofs.Applies.{redone_shut}
 
 module _ {S : Type 0} (seen : S → Image) (touched : S → Addr → Type 0) (clock : S → ℕ) (left_since : S → ℕ → Image → Type 0)
     (old synced : S) (only_now : (m : Image) → left_since old (clock old) m → IsImage (seen old) (touched old) m)

@@ -1,4 +1,4 @@
--- Which calls lay a batch, and in which order.
+-- Which calls apply a batch, and in which order.
 use Rattle.std.specs.Prelude.{◌≡◌, ◌≢◌, ℕ, ◌&&◌, nat_le, Bool, true, false, List, [], ◌∷◌, ◌++◌, length, Some, None}
 use Rattle.std.specs.List.{list_all}
 use Rattle.disk_model.specs.Calls.{seen_from}
@@ -73,8 +73,8 @@ pub record Shuts (n : ℕ) (calls : List Call) : Type 0 where
   pub placed : Places n places
   pub is_shut : first_byte (Some gate) ≢ 1
 
--- What lays a batch of n pages: calls of which Own holds; a sync; the gate is opened; a sync; and then what shuts it.
-pub record Lays (Own : List Call → Type 0) (n : ℕ) (calls : List Call) : Type 0 where
+-- What applies a batch of n pages: calls of which Own holds; a sync; the gate is opened; a sync; and then what shuts it.
+pub record Applies (Own : List Call → Type 0) (n : ℕ) (calls : List Call) : Type 0 where
   pub own : List Call
   pub gate : List ℕ
   pub rest : List Call

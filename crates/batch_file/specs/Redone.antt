@@ -1,4 +1,4 @@
--- The pages that an image stands for once a batch that was begun is laid on them.
+-- The pages that an image stands for once a batch that was begun is applied to them.
 use Rattle.std.specs.Prelude.{◌≢◌, ℕ, zero, suc, ◌/◌, ◌==◌, ◌||◌, nat_le, Bool, true, false, List, [], ◌∷◌, Option, Some, None, if◌then◌else◌, Result, Ok, Err}
 use Rattle.disk_model.specs.Disk.{Image, IsImage, is_at}
 use Rattle.disk_model.specs.declared.disk.Addr.{Addr}

@@ -11,8 +11,8 @@ use disk_model::{Addr, Disk, DiskFailed, Page};
 
 /// Reads a page that is to be there.
 pub fn page<D: Disk>(disk: &mut D, a: Addr, out: &mut Page) -> Result<(), RestoreFault>
-    ensures page { IsTrue D.tells → IsPage (D.seen disk.old a) a out.new result }
-    ensures same { IsTrue D.tells →
+    ensures page { IsTrue D.is_known → IsPage (D.seen disk.old a) a out.new result }
+    ensures same { IsTrue D.is_known →
         OnlyReads D.seen D.touched D.clock D.left_since disk.old disk.new }
     ensures unwritten { D.history disk.new ≡ D.history disk.old }
     ensures cause { FailsBy (D.faults disk.old) (D.faults disk.new) result }
@@ -29,10 +29,10 @@ pub fn page<D: Disk>(disk: &mut D, a: Addr, out: &mut Page) -> Result<(), Restor
 
 /// Reads the page of address `k`, where the buffer doesn't hold it already.
 fn buffered<D: Disk>(disk: &mut D, k: u32, buffer: &mut Page) -> Result<(), RestoreFault>
-    requires { IsTrue D.tells → IsBuffered (D.seen disk.old) k buffer.old }
-    ensures page { IsTrue D.tells →
+    requires { IsTrue D.is_known → IsBuffered (D.seen disk.old) k buffer.old }
+    ensures page { IsTrue D.is_known →
         IsPage (D.seen disk.old (addr 3 (k / 128))) (addr 3 (k / 128)) buffer.new result }
-    ensures same { IsTrue D.tells →
+    ensures same { IsTrue D.is_known →
         OnlyReads D.seen D.touched D.clock D.left_since disk.old disk.new }
     ensures unwritten { D.history disk.new ≡ D.history disk.old }
     ensures cause { FailsBy (D.faults disk.old) (D.faults disk.new) result }
@@ -50,12 +50,12 @@ fn buffered<D: Disk>(disk: &mut D, k: u32, buffer: &mut Page) -> Result<(), Rest
 
 /// Reads address `k` of the batch. The buffer keeps its page for the next.
 pub fn next_address<D: Disk>(disk: &mut D, k: u32, buffer: &mut Page) -> Result<Addr, RestoreFault>
-    requires { IsTrue D.tells → IsBuffered (D.seen disk.old) k buffer.old }
-    ensures address { IsTrue D.tells → IsAddress (D.seen disk.old) k result }
+    requires { IsTrue D.is_known → IsBuffered (D.seen disk.old) k buffer.old }
+    ensures address { IsTrue D.is_known → IsAddress (D.seen disk.old) k result }
     ensures place { IfOk result (λ a. is_place a ≡ true) }
-    ensures buffered { IsTrue D.tells →
+    ensures buffered { IsTrue D.is_known →
         OnOk result (IsBuffered (D.seen disk.old) (k + 1) buffer.new) }
-    ensures same { IsTrue D.tells →
+    ensures same { IsTrue D.is_known →
         OnlyReads D.seen D.touched D.clock D.left_since disk.old disk.new }
     ensures unwritten { D.history disk.new ≡ D.history disk.old }
     ensures cause { FailsBy (D.faults disk.old) (D.faults disk.new) result }
@@ -73,8 +73,8 @@ pub fn next_address<D: Disk>(disk: &mut D, k: u32, buffer: &mut Page) -> Result<
 
 /// The count of a head that is of its form.
 fn head<D: Disk>(disk: &mut D) -> Result<u32, RestoreFault>
-    ensures head { IsTrue D.tells → IsHeadOf (D.seen disk.old) result }
-    ensures same { IsTrue D.tells →
+    ensures head { IsTrue D.is_known → IsHeadOf (D.seen disk.old) result }
+    ensures same { IsTrue D.is_known →
         OnlyReads D.seen D.touched D.clock D.left_since disk.old disk.new }
     ensures unwritten { D.history disk.new ≡ D.history disk.old }
     ensures cause { FailsBy (D.faults disk.old) (D.faults disk.new) result }
@@ -90,8 +90,8 @@ fn head<D: Disk>(disk: &mut D) -> Result<u32, RestoreFault>
 
 /// Looks for the first address that isn't there or that a batch may not name.
 fn check_addresses<D: Disk>(disk: &mut D, count: u32) -> Result<(), RestoreFault>
-    ensures lawful { IsTrue D.tells → AreLawful (D.seen disk.old) count result }
-    ensures same { IsTrue D.tells →
+    ensures lawful { IsTrue D.is_known → AreLawful (D.seen disk.old) count result }
+    ensures same { IsTrue D.is_known →
         OnlyReads D.seen D.touched D.clock D.left_since disk.old disk.new }
     ensures unwritten { D.history disk.new ≡ D.history disk.old }
     ensures cause { FailsBy (D.faults disk.old) (D.faults disk.new) result }
@@ -105,8 +105,8 @@ fn check_addresses<D: Disk>(disk: &mut D, count: u32) -> Result<(), RestoreFault
 
 /// Looks for the first image that isn't there.
 fn check_images<D: Disk>(disk: &mut D, count: u32) -> Result<(), RestoreFault>
-    ensures there { IsTrue D.tells → AreThere (D.seen disk.old) count result }
-    ensures same { IsTrue D.tells →
+    ensures there { IsTrue D.is_known → AreThere (D.seen disk.old) count result }
+    ensures same { IsTrue D.is_known →
         OnlyReads D.seen D.touched D.clock D.left_since disk.old disk.new }
     ensures unwritten { D.history disk.new ≡ D.history disk.old }
     ensures cause { FailsBy (D.faults disk.old) (D.faults disk.new) result }
@@ -120,10 +120,10 @@ fn check_images<D: Disk>(disk: &mut D, count: u32) -> Result<(), RestoreFault>
 
 /// The number of images of a batch that is of its form.
 pub fn check<D: Disk>(disk: &mut D) -> Result<u32, RestoreFault>
-    ensures answer { IsTrue D.tells →
+    ensures answer { IsTrue D.is_known →
         (result ≡ Err RestoreFault.Disk)
         ⊎ IsAnswerOf (damage (D.seen disk.old)) (count (D.seen disk.old)) result }
-    ensures same { IsTrue D.tells →
+    ensures same { IsTrue D.is_known →
         OnlyReads D.seen D.touched D.clock D.left_since disk.old disk.new }
     ensures unwritten { D.history disk.new ≡ D.history disk.old }
     ensures cause { FailsBy (D.faults disk.old) (D.faults disk.new) result }

@@ -8,11 +8,11 @@ use disk_model::DiskFailed;
 pub enum Restored {
     /// The gate was shut, so nothing was to be done.
     Nothing,
-    /// A batch of so many images was laid on the disk.
+    /// A batch of so many images was applied to the disk.
     Redone(u32),
 }
 
-/// Why a batch wasn't laid.
+/// Why a batch wasn't applied.
 #[derive(Clone, Copy, Debug, PartialEq, Eq)]
 pub enum RestoreFault {
     /// A call to the disk failed.

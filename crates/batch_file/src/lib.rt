@@ -1,10 +1,10 @@
-//! A batch of pages that is laid on a disk as one: all of them, or none.
+//! A batch of pages that is applied to a disk as one: all of them, or none.
 #![tactic(auto)]
 
+mod applying;
 mod check;
 mod committing;
 mod fault;
-mod laying;
 mod layout;
 mod redo;
 mod restoring;

@@ -1,4 +1,4 @@
-// Laying a batch on the disk whose gate is open.
+// Applying a batch on the disk whose gate is open.
 ghost use Rattle.std.specs.Prelude.{◌≡◌, ◌⊎◌, ◌+◌, Some, Ok, Err, IsTrue, IfOk, IfErr, OnOk, true};
 ghost use Rattle.disk_model.specs.Disk.{OnlyReads, LeavesOnly};
 ghost use Rattle.disk_model.specs.History.{CameSo};
@@ -20,14 +20,14 @@ fn next_entry<D: Disk>(
     buffer: &mut Page,
     image: &mut Page,
 ) -> Result<Addr, RestoreFault>
-    requires { IsTrue D.tells → IsBuffered (D.seen disk.old) k buffer.old }
-    ensures entry { IsTrue D.tells → IfOk result (λ a. entry (D.seen disk.old) k ≡ (a, image.new)) }
-    ensures whole { IsTrue D.tells → is_lawful (D.seen disk.old) k ≡ true → has_image (D.seen disk.old) k ≡ true
+    requires { IsTrue D.is_known → IsBuffered (D.seen disk.old) k buffer.old }
+    ensures entry { IsTrue D.is_known → IfOk result (λ a. entry (D.seen disk.old) k ≡ (a, image.new)) }
+    ensures whole { IsTrue D.is_known → is_lawful (D.seen disk.old) k ≡ true → has_image (D.seen disk.old) k ≡ true
         → IfErr result (λ fault. fault ≡ RestoreFault.Disk) }
     ensures place { IfOk result (λ a. is_place a ≡ true) }
-    ensures buffered { IsTrue D.tells →
+    ensures buffered { IsTrue D.is_known →
         OnOk result (IsBuffered (D.seen disk.old) (k + 1) buffer.new) }
-    ensures same { IsTrue D.tells →
+    ensures same { IsTrue D.is_known →
         OnlyReads D.seen D.touched D.clock D.left_since disk.old disk.new }
     ensures unwritten { D.history disk.new ≡ D.history disk.old }
     ensures cause { FailsBy (D.faults disk.old) (D.faults disk.new) result }
@@ -39,13 +39,13 @@ fn next_entry<D: Disk>(
 
 /// Writes each image to its place.
 fn place_all<D: Disk>(disk: &mut D, count: u32) -> Result<(), RestoreFault>
-    requires { IsTrue D.tells → IsOpen (D.seen disk.old) (D.touched disk.old) count }
-    ensures crash { IsTrue D.tells →
+    requires { IsTrue D.is_known → IsOpen (D.seen disk.old) (D.touched disk.old) count }
+    ensures crash { IsTrue D.is_known →
         LeavesOnly D.clock D.left_since disk.old disk.new
         (λ m. redone m ≡ redone (D.seen disk.old)) }
-    ensures placed { IsTrue D.tells →
+    ensures placed { IsTrue D.is_known →
         OnOk result (D.seen disk.new ≡ laid (entries (D.seen disk.old) count) (D.seen disk.old)) }
-    ensures whole { IsTrue D.tells → (result ≡ Err RestoreFault.Disk) ⊎ (result ≡ Ok record {}) }
+    ensures whole { IsTrue D.is_known → (result ≡ Err RestoreFault.Disk) ⊎ (result ≡ Ok record {}) }
     ensures made { OnOk result (CameSo (D.history disk.old) (D.history disk.new) (Places count)) }
     ensures cause { FailsBy (D.faults disk.old) (D.faults disk.new) result }
 {
@@ -58,17 +58,17 @@ fn place_all<D: Disk>(disk: &mut D, count: u32) -> Result<(), RestoreFault>
     Ok(())
 }
 
-/// Lays a batch on the disk whose gate is open, and shuts it. It may crash at any moment.
+/// Applies a batch on the disk whose gate is open, and shuts it. It may crash at any moment.
 pub fn redo<D: Disk>(disk: &mut D, count: u32) -> Result<(), RestoreFault>
-    requires { IsTrue D.tells → IsOpen (D.seen disk.old) (D.touched disk.old) count }
-    ensures crash { IsTrue D.tells →
+    requires { IsTrue D.is_known → IsOpen (D.seen disk.old) (D.touched disk.old) count }
+    ensures crash { IsTrue D.is_known →
         LeavesOnly D.clock D.left_since disk.old disk.new
         (λ m. redone m ≡ redone (D.seen disk.old)) }
-    ensures done { IsTrue D.tells →
+    ensures done { IsTrue D.is_known →
         OnOk result (redone (D.seen disk.old) ≡ Some (kept (D.seen disk.new))) }
-    ensures closed { IsTrue D.tells →
+    ensures closed { IsTrue D.is_known →
         OnOk result (IsClosed (D.seen disk.new) (D.touched disk.new)) }
-    ensures whole { IsTrue D.tells → (result ≡ Err RestoreFault.Disk) ⊎ (result ≡ Ok record {}) }
+    ensures whole { IsTrue D.is_known → (result ≡ Err RestoreFault.Disk) ⊎ (result ≡ Ok record {}) }
     ensures made { OnOk result (CameSo (D.history disk.old) (D.history disk.new) (Shuts count)) }
     ensures cause { FailsBy (D.faults disk.old) (D.faults disk.new) result }
 {

@@ -1,4 +1,4 @@
-// Laying the batch that a crash left behind an open gate.
+// Applying the batch that a crash left behind an open gate.
 ghost use Rattle.std.specs.Prelude.{◌≡◌, ◌≢◌, ◌⊎◌, ◌↔◌, Some, None, Err, IsTrue, IfOk, OnOk, if◌then◌else◌};
 ghost use Rattle.fault_io.specs.Causes.{HasCause};
 ghost use Rattle.disk_model.specs.Disk.{OnlyReads, LeavesOnly, RisesUpTo};
@@ -17,9 +17,9 @@ use disk_model::{Disk, DiskFailed, Page};
 
 /// Whether the gate is open.
 fn is_open<D: Disk>(disk: &mut D) -> Result<bool, DiskFailed>
-    ensures opened { IsTrue D.tells →
+    ensures opened { IsTrue D.is_known →
         IfOk result (λ yes. IsTrue yes ↔ (gate (D.seen disk.old) ≡ 1)) }
-    ensures same { IsTrue D.tells →
+    ensures same { IsTrue D.is_known →
         OnlyReads D.seen D.touched D.clock D.left_since disk.old disk.new }
     ensures unwritten { D.history disk.new ≡ D.history disk.old }
     ensures reads { RisesUpTo 1 (D.reads disk.old) (D.reads disk.new) }
@@ -37,26 +37,26 @@ fn opens(found: bool, page: &Page) -> bool
     found && page[0] == 1
 }
 
-/// Lays the batch that a crash left behind an open gate on the disk, and shuts the gate. It begins
+/// Applies the batch that a crash left behind an open gate on the disk, and shuts the gate. It begins
 /// with a sync. It may be stopped too, and repeated. Takes no memory.
 ///
 /// `Nothing` where the gate is shut, else `Redone` with the number of images. `Damaged` where the
 /// gate is open and the batch is not of its form. `Disk` only where a call to the disk failed.
 pub fn restore<D: Disk>(disk: &mut D) -> Result<Restored, RestoreFault>
     // The answer is that of what a read gives; only a fault of the disk goes before.
-    ensures answer { IsTrue D.tells →
+    ensures answer { IsTrue D.is_known →
         (result ≡ Err RestoreFault.Disk) ⊎ (result ≡ answer (D.seen disk.old)) }
-    ensures done { IsTrue D.tells →
+    ensures done { IsTrue D.is_known →
         OnOk result (redone (D.seen disk.old) ≡ Some (kept (D.seen disk.new))) }
-    ensures closed { IsTrue D.tells →
+    ensures closed { IsTrue D.is_known →
         OnOk result (IsClosed (D.seen disk.new) (D.touched disk.new)) }
-    ensures crash { IsTrue D.tells →
+    ensures crash { IsTrue D.is_known →
         LeavesOnly D.clock D.left_since disk.old disk.new
         (SameRedone (D.seen disk.old) (D.touched disk.old)) }
     // Where the gate is shut, its page is read and no other.
-    ensures reads { IsTrue D.tells → gate (D.seen disk.old) ≢ 1
+    ensures reads { IsTrue D.is_known → gate (D.seen disk.old) ≢ 1
         → RisesUpTo 1 (D.reads disk.old) (D.reads disk.new) }
-    // Whatever the disk tells of what it holds, these calls were made and answered Ok.
+    // Whatever is known of the disk's content, these calls were made and answered Ok.
     ensures made { IfOk result (λ done. CameSo (D.history disk.old) (D.history disk.new) (Restores done)) }
     ensures cause { FailsBy (D.faults disk.old) (D.faults disk.new) result }
 {

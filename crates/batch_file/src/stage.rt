@@ -9,13 +9,13 @@ ghost use Rattle.batch_file.specs.Layout.{addr, is_place};
 ghost use Rattle.batch_file.specs.Redone.{kept, laid, IsShut};
 ghost use Rattle.batch_file.specs.OnDisk.{InBatch, SameOutside, BeforeOrAfter, IsClosed, renewed, image_in};
 
+use crate::applying::apply_batch;
 use crate::fault::RestoreFault;
-use crate::laying::lay;
 use crate::layout::put_address;
 use disk_model::{Addr, Disk, DiskFailed, Page};
 
 /// A batch that is being written: pages, each with the address at which it is to stand, which
-/// `finish` lays on the disk all together.
+/// `finish` applies all together to the disk.
 ///
 /// Its calls are for one disk, whose gate is shut, and whose files 2 to 4 read as the calls left
 /// them. Until `finish` the gate stays shut, and every other page is as it was. None takes memory.
@@ -35,7 +35,7 @@ impl Drop for Batch {
 }
 
 impl Batch {
-    ghost use Rattle.batch_file.specs.Order.{Adds, Completes, Lays};
+    ghost use Rattle.batch_file.specs.Order.{Adds, Completes, Applies};
     ghost use Rattle.batch_file.specs.Staged.{size_of, staged, Holds};
 
     /// A batch without an image.
@@ -62,18 +62,18 @@ impl Batch {
     pub fn add<D: Disk>(&mut self, disk: &mut D, a: Addr, page: &Page) -> Result<(), DiskFailed>
         requires room { size_of self.old < 2 ^ 32 - 1 }
         requires place { IsTrue (is_place a) }
-        requires shut { IsTrue D.tells → IsShut (D.seen disk.old) (D.touched disk.old) }
-        requires held { IsTrue D.tells → Holds (D.seen disk.old) self.old }
+        requires shut { IsTrue D.is_known → IsShut (D.seen disk.old) (D.touched disk.old) }
+        requires held { IsTrue D.is_known → Holds (D.seen disk.old) self.old }
 
         ensures count { OnOk result (size_of self.new ≡ size_of self.old + 1) }
-        ensures added { IsTrue D.tells →
+        ensures added { IsTrue D.is_known →
             OnOk result (staged (D.seen disk.new) self.new
             ≡ staged (D.seen disk.old) self.old ++ (a, page.now) ∷ []) }
-        ensures held { IsTrue D.tells → OnOk result (Holds (D.seen disk.new) self.new) }
+        ensures held { IsTrue D.is_known → OnOk result (Holds (D.seen disk.new) self.new) }
 
-        ensures change { IsTrue D.tells → Changes InBatch D.seen D.touched disk.old disk.new }
-        ensures shut { IsTrue D.tells → IsShut (D.seen disk.new) (D.touched disk.new) }
-        ensures crash { IsTrue D.tells →
+        ensures change { IsTrue D.is_known → Changes InBatch D.seen D.touched disk.old disk.new }
+        ensures shut { IsTrue D.is_known → IsShut (D.seen disk.new) (D.touched disk.new) }
+        ensures crash { IsTrue D.is_known →
             LeavesOnly D.clock D.left_since disk.old disk.new
             (SameOutside (D.seen disk.old) (D.touched disk.old)) }
         ensures made { OnOk result (CameSo (D.history disk.old) (D.history disk.new)
@@ -91,18 +91,18 @@ impl Batch {
     /// Puts another page in the place of image `i`.
     pub fn renew<D: Disk>(&mut self, disk: &mut D, i: u32, page: &Page) -> Result<(), DiskFailed>
         requires there { i < size_of self.old }
-        requires shut { IsTrue D.tells → IsShut (D.seen disk.old) (D.touched disk.old) }
-        requires held { IsTrue D.tells → Holds (D.seen disk.old) self.old }
+        requires shut { IsTrue D.is_known → IsShut (D.seen disk.old) (D.touched disk.old) }
+        requires held { IsTrue D.is_known → Holds (D.seen disk.old) self.old }
 
         ensures same { self.new ≡ self.old }
-        ensures renewed { IsTrue D.tells →
+        ensures renewed { IsTrue D.is_known →
             OnOk result (staged (D.seen disk.new) self.new
             ≡ renewed (staged (D.seen disk.old) self.old) i page.now) }
-        ensures held { IsTrue D.tells → OnOk result (Holds (D.seen disk.new) self.new) }
+        ensures held { IsTrue D.is_known → OnOk result (Holds (D.seen disk.new) self.new) }
 
-        ensures change { IsTrue D.tells → Changes InBatch D.seen D.touched disk.old disk.new }
-        ensures shut { IsTrue D.tells → IsShut (D.seen disk.new) (D.touched disk.new) }
-        ensures crash { IsTrue D.tells →
+        ensures change { IsTrue D.is_known → Changes InBatch D.seen D.touched disk.old disk.new }
+        ensures shut { IsTrue D.is_known → IsShut (D.seen disk.new) (D.touched disk.new) }
+        ensures crash { IsTrue D.is_known →
             LeavesOnly D.clock D.left_since disk.old disk.new
             (SameOutside (D.seen disk.old) (D.touched disk.old)) }
         ensures made { OnOk result
@@ -116,43 +116,43 @@ impl Batch {
     /// Reads image `i`.
     pub fn image<D: Disk>(&self, disk: &mut D, i: u32, out: &mut Page) -> Result<(), DiskFailed>
         requires there { i < size_of self.now }
-        requires held { IsTrue D.tells → Holds (D.seen disk.old) self.now }
-        ensures image { IsTrue D.tells →
+        requires held { IsTrue D.is_known → Holds (D.seen disk.old) self.now }
+        ensures image { IsTrue D.is_known →
             OnOk result (image_in (staged (D.seen disk.old) self.now) i ≡ Some out.new) }
-        ensures same { IsTrue D.tells →
+        ensures same { IsTrue D.is_known →
             OnlyReads D.seen D.touched D.clock D.left_since disk.old disk.new }
         ensures unwritten { D.history disk.new ≡ D.history disk.old }
         ensures reads { RisesUpTo 1 (D.reads disk.old) (D.reads disk.new) }
         ensures cause { HasCause (D.faults disk.old) (D.faults disk.new) result }
     {
-        // A disk that tells what it holds has the page.
+        // A disk whose content is known has the page.
         let _found = disk.read(Addr { file: 4, page: i }, out)?;
         Ok(())
     }
 
-    /// Lays all pages of the batch on the disk, or none. Without an image it does nothing.
+    /// Applies all pages of the batch on the disk, or none. Without an image it does nothing.
     ///
     /// `Disk` only where a call to the disk failed. `Damaged` where a page of the batch isn't there when
-    /// it is read again, and no call failed: never on a disk that tells what it holds. The gate then
+    /// it is read again, and no call failed: never on a disk whose content is known. The gate then
     /// stays open.
     pub fn finish<D: Disk>(self, disk: &mut D) -> Result<(), RestoreFault>
-        requires shut { IsTrue D.tells → IsShut (D.seen disk.old) (D.touched disk.old) }
-        requires held { IsTrue D.tells → Holds (D.seen disk.old) self }
+        requires shut { IsTrue D.is_known → IsShut (D.seen disk.old) (D.touched disk.old) }
+        requires held { IsTrue D.is_known → Holds (D.seen disk.old) self }
 
         // A crash at any moment leaves the pages of an image of before, with the batch laid over
         // it or not.
-        ensures crash { IsTrue D.tells → LeavesOnly D.clock D.left_since disk.old disk.new
+        ensures crash { IsTrue D.is_known → LeavesOnly D.clock D.left_since disk.old disk.new
             (BeforeOrAfter (D.seen disk.old) (D.touched disk.old) (staged (D.seen disk.old) self)) }
-        ensures laid { IsTrue D.tells →
+        ensures laid { IsTrue D.is_known →
             OnOk result (kept (D.seen disk.new)
             ≡ kept (laid (staged (D.seen disk.old) self) (D.seen disk.old))) }
-        ensures closed { IsTrue D.tells →
+        ensures closed { IsTrue D.is_known →
             OnOk result (0 < size_of self → IsClosed (D.seen disk.new) (D.touched disk.new)) }
         ensures empty { size_of self ≡ 0 → (disk.new ≡ disk.old) × IsOk result }
-        ensures whole { IsTrue D.tells → (result ≡ Err RestoreFault.Disk) ⊎ (result ≡ Ok record {}) }
-        // Whatever the disk tells of what it holds, these calls were made and answered Ok.
+        ensures whole { IsTrue D.is_known → (result ≡ Err RestoreFault.Disk) ⊎ (result ≡ Ok record {}) }
+        // Whatever is known of the disk's content, these calls were made and answered Ok.
         ensures made { OnOk result (0 < size_of self
-            → CameSo (D.history disk.old) (D.history disk.new) (Lays (Completes self) (size_of self))) }
+            → CameSo (D.history disk.old) (D.history disk.new) (Applies (Completes self) (size_of self))) }
         ensures cause { FailsBy (D.faults disk.old) (D.faults disk.new) result }
     {
         if self.count == 0 {
@@ -164,18 +164,18 @@ impl Batch {
             self.count / 128,
             &self.addresses,
         )?;
-        lay(disk, self.count)?;
+        apply_batch(disk, self.count)?;
         Ok(())
     }
 }
 
 /// Writes a page of addresses where it is due.
 fn write_if<D: Disk>(disk: &mut D, due: bool, n: u32, addresses: &Page) -> Result<(), DiskFailed>
-    ensures written { IsTrue D.tells →
+    ensures written { IsTrue D.is_known →
         OnOk result (IsTrue due → D.seen disk.new (addr 3 n) ≡ Some addresses.now) }
-    ensures change { IsTrue D.tells →
+    ensures change { IsTrue D.is_known →
         Changes (λ b. b ≡ addr 3 n) D.seen D.touched disk.old disk.new }
-    ensures time { IsTrue D.tells →
+    ensures time { IsTrue D.is_known →
         Elapses D.seen D.touched D.clock D.left_since disk.old disk.new }
     ensures made { OnOk result (Came (D.history disk.old) (D.history disk.new)
         (if due then AWrite (addr 3 n) addresses.now ∷ [] else [])) }

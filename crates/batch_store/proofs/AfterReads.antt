@@ -5,7 +5,7 @@ use Rattle.disk_model.specs.declared.disk.Disk.{Ghosts}
 use Rattle.batch_file.specs.declared.stage.Batch.{Batch}
 use Rattle.batch_file.proofs.Outside.{apart_reads}
 use Rattle.batch_store.specs.Run.{Ran}
-use Rattle.batch_store.specs.Standing.{told}
+use Rattle.batch_store.specs.Recovered.{known}
 
 module _ {D : Type 0} (g : Ghosts D) where
   abbrev Read : D → D → Type 0
@@ -21,17 +21,17 @@ module _ {D : Type 0} (g : Ghosts D) where
   }
 
   -- a read after what was done before
-  pub ran_reads : (was now : Bool) (old between new : D) → Ran g was old now between → (IsTrue g.tells → Read between new) → Ran g was old now new
+  pub ran_reads : (was now : Bool) (old between new : D) → Ran g was old now between → (IsTrue g.is_known → Read between new) → Ran g was old now new
   ran_reads was now old between new so_far read = record {
     still = so_far.still;
-    apart = λ told only. apart_reads g.seen g.touched g.clock g.left_since old between new (so_far.apart told only) (read told);
-    reads = λ told due. reads_join old between new (so_far.reads told due) (read told);
+    apart = λ known only. apart_reads g.seen g.touched g.clock g.left_since old between new (so_far.apart known only) (read known);
+    reads = λ known due. reads_join old between new (so_far.reads known due) (read known);
   }
 
-  -- it leaves what is told
-  pub told_reads : (batch : Batch) (old new : D) → (IsTrue g.tells → Read old new) → told g.tells (g.seen new) batch ≡ told g.tells (g.seen old) batch
-  told_reads batch old new read = go g.tells (λ t. (read t).seen_same)
+  -- it leaves what is known
+  pub known_reads : (batch : Batch) (old new : D) → (IsTrue g.is_known → Read old new) → known g.is_known (g.seen new) batch ≡ known g.is_known (g.seen old) batch
+  known_reads batch old new read = go g.is_known (λ t. (read t).seen_same)
     where
-      go : (tells : Bool) → (IsTrue tells → g.seen new ≡ g.seen old) → told tells (g.seen new) batch ≡ told tells (g.seen old) batch
-      go true same = ap (λ m. told true m batch) (same refl)
+      go : (is_known : Bool) → (IsTrue is_known → g.seen new ≡ g.seen old) → known is_known (g.seen new) batch ≡ known is_known (g.seen old) batch
+      go true same = ap (λ m. known true m batch) (same refl)
       go false same = refl

@@ -1,4 +1,4 @@
--- What stands at an address once the batch is laid.
+-- What stands at an address once the batch is applied.
 use Rattle.std.proofs.Common.{◌≡◌, ◌⊎◌, inl, inr, ℕ, ◌+◌, ◌<◌, ◌≤◌, Bool, true, false, IsTrue, nat_eq, ◌&&◌, List, [], ◌∷◌, ◌++◌, length, Option, Some, None, Result, Ok, Err, IfOk, OnOk, is_err, refl, sym, ◌∙◌, ap, subst, arith, if◌then◌else◌, cond}
 use Rattle.std.proofs.lemmas.Bool.Decides.{nat_tests}
 use Rattle.std.specs.HashMap as hash
@@ -12,12 +12,12 @@ use Rattle.batch_file.specs.Layout.{Entries, entry, entries_of, is_place}
 use Rattle.batch_file.specs.OnDisk.{InBatch, renewed, image_in}
 use Rattle.batch_file.specs.Redone.{latest, laid, kept, is_kept}
 use Rattle.batch_file.specs.Staged.{size_of, staged, completed}
-use Rattle.batch_file.proofs.Lays.{kept_by, kept_not_batch, latest-append, latest_off}
+use Rattle.batch_file.proofs.Applies.{kept_by, kept_not_batch, latest-append, latest_off}
 use Rattle.batch_file.proofs.Collecting.{all_places}
 use Rattle.batch_file.proofs.Listing.{length-entries}
-use Rattle.access_traits.specs.Pages.{with_page}
+use Rattle.am_traits.specs.Pages.{with_page}
 use Rattle.batch_store.specs.Numbers.{number_of, last_for, AreBelow, AreNumbered}
-use Rattle.batch_store.specs.Standing.{standing, told}
+use Rattle.batch_store.specs.Recovered.{recovered, known}
 use Rattle.batch_store.proofs.Numbering.{latest_none, latest_image, last_for-append, last_for-renewed, latest-renewed}
 
 place_kept : (b : Addr) → is_place b ≡ true → is_kept b.file ≡ true
@@ -38,30 +38,30 @@ laid_kept cs m all = λ i b. at b (is_kept b.file) refl i
     at b true is = refl
     at b false is = sym (latest_off cs b None (λ h. let e = place_kept b (all_places cs all b h) in let t : true ≡ false = sym e ∙ is in cc t))
 
-pub told_is : (tells : Bool) (m : Image) (batch : Batch) → IsTrue tells → told tells m batch ≡ Some (standing m batch)
-told_is true m batch is = refl
-told_is false m batch is = absurd (cc is)
+pub known_is : (is_known : Bool) (m : Image) (batch : Batch) → IsTrue is_known → known is_known m batch ≡ Some (recovered m batch)
+known_is true m batch is = refl
+known_is false m batch is = absurd (cc is)
 
 pub staged_length : (m : Image) (batch : Batch) → length (staged m batch) ≡ size_of batch
 staged_length m batch = length-entries (entry (completed m batch)) (size_of batch)
 
 -- without an image the pages are those that count
-pub standing_fresh : (m : Image) (batch : Batch) → staged m batch ≡ [] → standing m batch ≡ kept m
-unfolding standing
-standing_fresh m batch none = ap (λ (cs : Entries). kept (laid cs m)) none
+pub recovered_fresh : (m : Image) (batch : Batch) → staged m batch ≡ [] → recovered m batch ≡ kept m
+unfolding recovered
+recovered_fresh m batch none = ap (λ (cs : Entries). kept (laid cs m)) none
 
-pub standing_off : (m : Image) (batch : Batch) (a : Addr) → is_kept a.file ≡ false → standing m batch a ≡ None
-unfolding standing
-standing_off m batch a off = ap (λ t. if t then laid (staged m batch) m a else None) off
+pub recovered_off : (m : Image) (batch : Batch) (a : Addr) → is_kept a.file ≡ false → recovered m batch a ≡ None
+unfolding recovered
+recovered_off m batch a off = ap (λ t. if t then laid (staged m batch) m a else None) off
 
-pub standing_image : (m : Image) (batch : Batch) (a : Addr) (i : ℕ) (page : List ℕ) → is_kept a.file ≡ true → last_for (staged m batch) a ≡ Some i → image_in (staged m batch) i ≡ Some page → standing m batch a ≡ Some page
-unfolding standing
-standing_image m batch a i page is some image =
+pub recovered_image : (m : Image) (batch : Batch) (a : Addr) (i : ℕ) (page : List ℕ) → is_kept a.file ≡ true → last_for (staged m batch) a ≡ Some i → image_in (staged m batch) i ≡ Some page → recovered m batch a ≡ Some page
+unfolding recovered
+recovered_image m batch a i page is some image =
     ap (λ t. if t then laid (staged m batch) m a else None) is ∙ latest_image (staged m batch) a i page (m a) some image
 
-pub standing_disk : (m : Image) (batch : Batch) (a : Addr) → is_kept a.file ≡ true → last_for (staged m batch) a ≡ None → standing m batch a ≡ m a
-unfolding standing
-standing_disk m batch a is none =
+pub recovered_disk : (m : Image) (batch : Batch) (a : Addr) → is_kept a.file ≡ true → last_for (staged m batch) a ≡ None → recovered m batch a ≡ m a
+unfolding recovered
+recovered_disk m batch a is none =
     ap (λ t. if t then laid (staged m batch) m a else None) is ∙ latest_none (staged m batch) a (m a) none
 
 -- what a read answers is what stands there
@@ -73,10 +73,10 @@ kept_from_five : (file : ℕ) → 5 ≤ file → is_kept file ≡ true
 kept_from_five file from = grind (arith, nat_tests)
 
 module _ (m next : Image) (batch more : Batch) (a : Addr) (page : List ℕ) (from : 5 ≤ a.file) (same : (b : Addr) → (InBatch b → ⊥) → next b ≡ m b)
-    (lays : (b : Addr) (x : Option (List ℕ)) → latest (staged next more) b x ≡ (if is_at b a then Some page else latest (staged m batch) b x)) where
+    (applies : (b : Addr) (x : Option (List ℕ)) → latest (staged next more) b x ≡ (if is_at b a then Some page else latest (staged m batch) b x)) where
   kept_with : (b : Addr) (k : Bool) → is_kept b.file ≡ k
       → (if k then latest (staged next more) b (next b) else None) ≡ (if is_at b a then Some page else (if k then latest (staged m batch) b (m b) else None))
-  kept_with b true is = ap (latest (staged next more) b) (same b (kept_not_batch b is)) ∙ lays b (m b)
+  kept_with b true is = ap (latest (staged next more) b) (same b (kept_not_batch b is)) ∙ applies b (m b)
   kept_with b false is = elim (at_cases b a) [
     | inl here ↦
         let t : is_kept b.file ≡ true = subst (λ (d : Addr). is_kept d.file ≡ true) (sym here.0) (kept_from_five a.file from) in
@@ -85,19 +85,19 @@ module _ (m next : Image) (batch more : Batch) (a : Addr) (page : List ℕ) (fro
   ]
 
   -- another page stands at an address, and at each other what stood there
-  standing_with : standing next more ≡ with_page a page (standing m batch)
-  unfolding standing
-  standing_with = λ i b. kept_with b (is_kept b.file) refl i
+  recovered_with : recovered next more ≡ with_page a page (recovered m batch)
+  unfolding recovered
+  recovered_with = λ i b. kept_with b (is_kept b.file) refl i
 
-pub standing_added : (m next : Image) (batch more : Batch) (a : Addr) (page : List ℕ) → 5 ≤ a.file → ((b : Addr) → (InBatch b → ⊥) → next b ≡ m b) → staged next more ≡ staged m batch ++ (a, page) ∷ []
-    → standing next more ≡ with_page a page (standing m batch)
-standing_added m next batch more a page from same added =
-    standing_with m next batch more a page from same (λ b x. ap (λ (cs : Entries). latest cs b x) added ∙ latest-append (staged m batch) ((a, page) ∷ []) b x)
+pub recovered_added : (m next : Image) (batch more : Batch) (a : Addr) (page : List ℕ) → 5 ≤ a.file → ((b : Addr) → (InBatch b → ⊥) → next b ≡ m b) → staged next more ≡ staged m batch ++ (a, page) ∷ []
+    → recovered next more ≡ with_page a page (recovered m batch)
+recovered_added m next batch more a page from same added =
+    recovered_with m next batch more a page from same (λ b x. ap (λ (cs : Entries). latest cs b x) added ∙ latest-append (staged m batch) ((a, page) ∷ []) b x)
 
-pub standing_renewed : (m next : Image) (batch more : Batch) (i : ℕ) (a : Addr) (page : List ℕ) → 5 ≤ a.file → ((b : Addr) → (InBatch b → ⊥) → next b ≡ m b) → last_for (staged m batch) a ≡ Some i
-    → staged next more ≡ renewed (staged m batch) i page → standing next more ≡ with_page a page (standing m batch)
-standing_renewed m next batch more i a page from same some renews =
-    standing_with m next batch more a page from same (λ b x. ap (λ (cs : Entries). latest cs b x) renews ∙ latest-renewed (staged m batch) i a page b x some)
+pub recovered_renewed : (m next : Image) (batch more : Batch) (i : ℕ) (a : Addr) (page : List ℕ) → 5 ≤ a.file → ((b : Addr) → (InBatch b → ⊥) → next b ≡ m b) → last_for (staged m batch) a ≡ Some i
+    → staged next more ≡ renewed (staged m batch) i page → recovered next more ≡ with_page a page (recovered m batch)
+recovered_renewed m next batch more i a page from same some renews =
+    recovered_with m next batch more a page from same (λ b x. ap (λ (cs : Entries). latest cs b x) renews ∙ latest-renewed (staged m batch) i a page b x some)
 
 module _ {S : Type 0} where
   pub numbered_renewed : (numbers : HashMap (ℕ × ℕ) ℕ S) (cs more : Entries) (i : ℕ) (page : List ℕ) → AreNumbered numbers cs → more ≡ renewed cs i page → AreNumbered numbers more
@@ -143,8 +143,8 @@ kept_promise (Ok x) P ok so = so
 kept_promise (Err e) P ok so = absurd (cc ok)
 
 -- the pages while nothing was put
-pub fresh_pages : (tells : Bool) (m : Image) (batch : Batch) → IsTrue tells → staged m batch ≡ [] → told tells m batch ≡ Some (kept m)
-fresh_pages tells m batch is none = told_is tells m batch is ∙ ap Some (standing_fresh m batch none)
+pub fresh_pages : (is_known : Bool) (m : Image) (batch : Batch) → IsTrue is_known → staged m batch ≡ [] → known is_known m batch ≡ Some (kept m)
+fresh_pages is_known m batch is none = known_is is_known m batch is ∙ ap Some (recovered_fresh m batch none)
 
 pub staged_none : (m : Image) (batch : Batch) → size_of batch ≡ 0 → staged m batch ≡ []
 staged_none m batch none = ap (entries_of (entry (completed m batch))) none
@@ -152,30 +152,30 @@ staged_none m batch none = ap (entries_of (entry (completed m batch))) none
 pub staged_fresh : (m : Image) (batch fresh : Batch) → batch ≡ fresh → size_of fresh ≡ 0 → staged m batch ≡ []
 staged_fresh m batch fresh same none = staged_none m batch (ap size_of same ∙ none)
 
--- what is told is told by a disk that tells, and is what stands
-pub told_so : (tells : Bool) (m pages : Image) (batch : Batch) → told tells m batch ≡ Some pages → IsTrue tells × (standing m batch ≡ pages)
-told_so true m pages batch is = (refl, cc is)
-told_so false m pages batch is = absurd (cc is)
+-- what is known is told by a disk that tells, and is what stands
+pub known_so : (is_known : Bool) (m pages : Image) (batch : Batch) → known is_known m batch ≡ Some pages → IsTrue is_known × (recovered m batch ≡ pages)
+known_so true m pages batch is = (refl, cc is)
+known_so false m pages batch is = absurd (cc is)
 
-pub empty_so : (tells : Bool) (m pages : Image) (batch : Batch) → size_of batch ≡ 0 → told tells m batch ≡ Some pages → kept m ≡ pages
-empty_so tells m pages batch none is =
-    let so = told_so tells m pages batch is in
-    sym (standing_fresh m batch (staged_none m batch none)) ∙ so.1
+pub empty_so : (is_known : Bool) (m pages : Image) (batch : Batch) → size_of batch ≡ 0 → known is_known m batch ≡ Some pages → kept m ≡ pages
+empty_so is_known m pages batch none is =
+    let so = known_so is_known m pages batch is in
+    sym (recovered_fresh m batch (staged_none m batch none)) ∙ so.1
 
--- a batch that was laid makes the pages that were told
-pub laid_so : {T E : Type 0} (result : Result T E) (tells : Bool) (m next pages : Image) (batch taken : Batch) → taken ≡ batch → told tells m batch ≡ Some pages
-    → (IsTrue tells → OnOk result (kept next ≡ kept (laid (staged m taken) m))) → OnOk result (kept next ≡ pages)
-unfolding standing
-laid_so (Ok done) tells m next pages batch taken same is laid_ =
-    let so = told_so tells m pages batch is in
-    laid_ so.0 ∙ ap (λ (b : Batch). standing m b) same ∙ so.1
-laid_so (Err e) tells m next pages batch taken same is laid_ = tt
+-- a batch that was applied makes the pages that were known
+pub laid_so : {T E : Type 0} (result : Result T E) (is_known : Bool) (m next pages : Image) (batch taken : Batch) → taken ≡ batch → known is_known m batch ≡ Some pages
+    → (IsTrue is_known → OnOk result (kept next ≡ kept (laid (staged m taken) m))) → OnOk result (kept next ≡ pages)
+unfolding recovered
+laid_so (Ok done) is_known m next pages batch taken same is laid_ =
+    let so = known_so is_known m pages batch is in
+    laid_ so.0 ∙ ap (λ (b : Batch). recovered m b) same ∙ so.1
+laid_so (Err e) is_known m next pages batch taken same is laid_ = tt
 
-pub begun_so : {T E : Type 0} (result : Result T E) (tells : Bool) (next pages : Image) (fresh : Batch) → IsTrue tells → staged next fresh ≡ [] → OnOk result (kept next ≡ pages) → OnOk result (told tells next fresh ≡ Some pages)
-begun_so (Ok done) tells next pages fresh is none are = fresh_pages tells next fresh is none ∙ ap Some are
-begun_so (Err e) tells next pages fresh is none are = tt
+pub begun_so : {T E : Type 0} (result : Result T E) (is_known : Bool) (next pages : Image) (fresh : Batch) → IsTrue is_known → staged next fresh ≡ [] → OnOk result (kept next ≡ pages) → OnOk result (known is_known next fresh ≡ Some pages)
+begun_so (Ok done) is_known next pages fresh is none are = fresh_pages is_known next fresh is none ∙ ap Some are
+begun_so (Err e) is_known next pages fresh is none are = tt
 
--- the pages that are told are those of the disk with the changes laid over them
-pub told_laid : (tells : Bool) (m pages : Image) (batch : Batch) → told tells m batch ≡ Some pages → kept (laid (staged m batch) m) ≡ pages
-unfolding standing
-told_laid tells m pages batch is = let so = told_so tells m pages batch is in so.1
+-- the pages that are known are those of the disk with the changes laid over them
+pub known_laid : (is_known : Bool) (m pages : Image) (batch : Batch) → known is_known m batch ≡ Some pages → kept (laid (staged m batch) m) ≡ pages
+unfolding recovered
+known_laid is_known m pages batch is = let so = known_so is_known m pages batch is in so.1

@@ -2,5 +2,5 @@ pub mod Numbers
 pub mod Opening
 pub mod Run
 pub mod Running
-pub mod Standing
+pub mod Recovered
 pub mod Store

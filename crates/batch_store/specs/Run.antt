@@ -11,5 +11,5 @@ HasOnlyNow g d = (m : Image) → g.left_since d (g.clock d) m → IsImage (g.see
 -- Nothing was done but in the batch's own files, and nothing but reads while a restore is due.
 pub record Ran {D : Type 0} (g : Ghosts D) (was_due : Bool) (old : D) (is_due : Bool) (now : D) : Type 0 where
   pub still : is_due ≡ was_due
-  pub apart : IsTrue g.tells → HasOnlyNow g old → Apart g.seen g.touched g.clock g.left_since old now
-  pub reads : IsTrue g.tells → was_due ≡ true → OnlyReads g.seen g.touched g.clock g.left_since old now
+  pub apart : IsTrue g.is_known → HasOnlyNow g old → Apart g.seen g.touched g.clock g.left_since old now
+  pub reads : IsTrue g.is_known → was_due ≡ true → OnlyReads g.seen g.touched g.clock g.left_since old now

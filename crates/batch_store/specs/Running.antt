@@ -14,8 +14,8 @@ module _ {D : Type 0} (g : Ghosts D) where
   pub ran_starts : (due : Bool) (d : D) → Ran g due d due d
   ran_starts due d = record {
     still = refl;
-    apart = λ told now. apart_starts g.seen g.touched g.clock g.left_since d now;
-    reads = λ told is. only_reads_start d;
+    apart = λ known now. apart_starts g.seen g.touched g.clock g.left_since d now;
+    reads = λ known is. only_reads_start d;
   }
 
 module _ {D : Type 0} {g : Ghosts D} where
@@ -23,4 +23,4 @@ module _ {D : Type 0} {g : Ghosts D} where
   comes_of_itself s = ran_starts g s.due s.disk
 
   pub reads_of_itself : (s : BatchStore D g) → OnlyReadOf s s
-  reads_of_itself s = record { batch_same = refl; reads = λ told. only_reads_start g s.disk }
+  reads_of_itself s = record { batch_same = refl; reads = λ known. only_reads_start g s.disk }

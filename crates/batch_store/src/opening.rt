@@ -40,10 +40,10 @@ impl<D: Disk> BatchStore<D> {
 
     /// Waits until all that was written is durable. A restore is due then.
     fn settle(&mut self) -> Result<(), DiskFailed>
-        ensures settled { IsTrue D.tells → OnOk result (IsSettled (D.touched (disk_of self.new))) }
-        ensures seen { IsTrue D.tells → D.seen (disk_of self.new) ≡ D.seen (disk_of self.old) }
-        ensures touched { IsTrue D.tells → (b : At) → D.touched (disk_of self.new) b → D.touched (disk_of self.old) b }
-        ensures time { IsTrue D.tells → Elapses D.seen D.touched D.clock D.left_since (disk_of self.old) (disk_of self.new) }
+        ensures settled { IsTrue D.is_known → OnOk result (IsSettled (D.touched (disk_of self.new))) }
+        ensures seen { IsTrue D.is_known → D.seen (disk_of self.new) ≡ D.seen (disk_of self.old) }
+        ensures touched { IsTrue D.is_known → (b : At) → D.touched (disk_of self.new) b → D.touched (disk_of self.old) b }
+        ensures time { IsTrue D.is_known → Elapses D.seen D.touched D.clock D.left_since (disk_of self.old) (disk_of self.new) }
         ensures reads { D.reads (disk_of self.new) ≡ D.reads (disk_of self.old) }
         ensures begun { waiting self.new ≡ 0 }
         ensures due { is_due self.new ≡ true }
@@ -57,28 +57,28 @@ impl<D: Disk> BatchStore<D> {
     }
 
     /// Restores as `restore` does, once all that was written before is durable. So what the disk stands
-    /// for once its batch is laid is the same afterwards, also after an error.
+    /// for once its batch is applied is the same afterwards, also after an error.
     pub fn reopen(&mut self) -> Result<Restored, RestoreFault>
         // The answer is that of what a read gives, so damage is the first page at fault; only a fault of the disk goes before.
-        ensures answer { IsTrue D.tells →
+        ensures answer { IsTrue D.is_known →
             (result ≡ Err RestoreFault.Disk) ⊎ (result ≡ answer (D.seen (disk_of self.old))) }
-        ensures same { IsTrue D.tells → redone (D.seen (disk_of self.new)) ≡ redone (D.seen (disk_of self.old)) }
-        ensures done { IsTrue D.tells →
+        ensures same { IsTrue D.is_known → redone (D.seen (disk_of self.new)) ≡ redone (D.seen (disk_of self.old)) }
+        ensures done { IsTrue D.is_known →
             OnOk result (redone (D.seen (disk_of self.old)) ≡ Some (kept (D.seen (disk_of self.new)))) }
-        ensures damaged { IsTrue D.tells → (file page : ℕ) → result ≡ Err (RestoreFault.Damaged file page)
+        ensures damaged { IsTrue D.is_known → (file page : ℕ) → result ≡ Err (RestoreFault.Damaged file page)
             → redone (D.seen (disk_of self.old)) ≡ None }
-        ensures closed { IsTrue D.tells →
+        ensures closed { IsTrue D.is_known →
             OnOk result (IsClosed (D.seen (disk_of self.new)) (D.touched (disk_of self.new))) }
-        ensures crash { IsTrue D.tells →
+        ensures crash { IsTrue D.is_known →
             LeavesOnly D.clock D.left_since (disk_of self.old) (disk_of self.new)
             (SameRedone (D.seen (disk_of self.old)) (D.touched (disk_of self.old))) }
         // Where the gate is shut, its page is read and no other.
-        ensures reads { IsTrue D.tells → gate (D.seen (disk_of self.old)) ≢ 1
+        ensures reads { IsTrue D.is_known → gate (D.seen (disk_of self.old)) ≢ 1
             → RisesUpTo 1 (D.reads (disk_of self.old)) (D.reads (disk_of self.new)) }
         ensures begun { waiting self.new ≡ 0 }
         ensures calm { OnOk result (is_due self.new ≡ false) }
         ensures due { OnErr result (is_due self.new ≡ true) }
-        // Whatever the disk tells of what it holds, these calls were made and answered Ok.
+        // Whatever is known of the disk's content, these calls were made and answered Ok.
         ensures made { IfOk result (λ done.
             CameSo (D.history (disk_of self.old)) (D.history (disk_of self.new)) (Reopens done)) }
         ensures cause { FailsBy (D.faults (disk_of self.old)) (D.faults (disk_of self.new)) result }

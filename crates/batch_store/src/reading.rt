@@ -6,7 +6,7 @@ ghost use Rattle.disk_model.specs.Disk.{OnlyReads, RisesUpTo};
 ghost use Rattle.batch_file.specs.Redone.{is_kept};
 ghost use Rattle.batch_file.specs.Staged.{staged, Holds};
 ghost use Rattle.batch_store.specs.Numbers.{number_of, AreBelow, AreNumbered};
-ghost use Rattle.batch_store.specs.Standing.{standing};
+ghost use Rattle.batch_store.specs.Recovered.{recovered};
 
 use batch_file::Batch;
 use disk_model::{Addr, Disk, DiskFailed, Page};
@@ -29,7 +29,7 @@ fn counts(file: u32) -> bool
     file == 0 || file >= 5
 }
 
-/// Reads the page that stands at an address once the batch is laid.
+/// Reads the page that stands at an address once the batch is applied.
 pub(crate) fn read_page<D: Disk>(
     disk: &mut D,
     batch: &Batch,
@@ -38,11 +38,11 @@ pub(crate) fn read_page<D: Disk>(
     out: &mut Page,
 ) -> Result<bool, DiskFailed>
     requires below { AreBelow numbers.now batch.now }
-    requires held { IsTrue D.tells → Holds (D.seen disk.old) batch.now }
-    requires numbered { IsTrue D.tells → AreNumbered numbers.now (staged (D.seen disk.old) batch.now) }
-    ensures page { IsTrue D.tells →
-        IfOk result (λ found. standing (D.seen disk.old) batch.now a ≡ (if found then Some out.new else None)) }
-    ensures same { IsTrue D.tells → OnlyReads D.seen D.touched D.clock D.left_since disk.old disk.new }
+    requires held { IsTrue D.is_known → Holds (D.seen disk.old) batch.now }
+    requires numbered { IsTrue D.is_known → AreNumbered numbers.now (staged (D.seen disk.old) batch.now) }
+    ensures page { IsTrue D.is_known →
+        IfOk result (λ found. recovered (D.seen disk.old) batch.now a ≡ (if found then Some out.new else None)) }
+    ensures same { IsTrue D.is_known → OnlyReads D.seen D.touched D.clock D.left_since disk.old disk.new }
     ensures reads { RisesUpTo 1 (D.reads disk.old) (D.reads disk.new) }
     ensures cause { HasCause (D.faults disk.old) (D.faults disk.new) result }
 {

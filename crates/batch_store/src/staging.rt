@@ -5,13 +5,13 @@ ghost use Rattle.disk_model.specs.Disk.{Image, Changes, LeavesOnly};
 ghost use Rattle.batch_file.specs.OnDisk.{InBatch, SameOutside};
 ghost use Rattle.batch_file.specs.Redone.{IsShut};
 ghost use Rattle.batch_file.specs.Staged.{size_of, staged, Holds};
-ghost use Rattle.access_traits.specs.Causes.{HasStoreCause};
-ghost use Rattle.access_traits.specs.Pages.{with_page};
+ghost use Rattle.am_traits.specs.Causes.{HasStoreCause};
+ghost use Rattle.am_traits.specs.Pages.{with_page};
 ghost use Rattle.batch_store.specs.Numbers.{number_of, AreBelow, AreNumbered};
-ghost use Rattle.batch_store.specs.Standing.{standing};
+ghost use Rattle.batch_store.specs.Recovered.{recovered};
 
 use crate::reading::{Numbers, number_for};
-use access_traits::StoreFault;
+use am_traits::StoreFault;
 use batch_file::Batch;
 use disk_model::{Addr, Disk, Page};
 
@@ -38,18 +38,18 @@ pub(crate) fn stage<D: Disk>(
 ) -> Result<(), StoreFault>
     requires place { 5 ≤ a.file }
     requires below { AreBelow numbers.old batch.old }
-    requires shut { IsTrue D.tells → IsShut (D.seen disk.old) (D.touched disk.old) }
-    requires held { IsTrue D.tells → Holds (D.seen disk.old) batch.old }
-    requires numbered { IsTrue D.tells → AreNumbered numbers.old (staged (D.seen disk.old) batch.old) }
-    ensures page { IsTrue D.tells → OnOk result (standing (D.seen disk.new) batch.new
-        ≡ with_page a page.now (standing (D.seen disk.old) batch.old)) }
+    requires shut { IsTrue D.is_known → IsShut (D.seen disk.old) (D.touched disk.old) }
+    requires held { IsTrue D.is_known → Holds (D.seen disk.old) batch.old }
+    requires numbered { IsTrue D.is_known → AreNumbered numbers.old (staged (D.seen disk.old) batch.old) }
+    ensures page { IsTrue D.is_known → OnOk result (recovered (D.seen disk.new) batch.new
+        ≡ with_page a page.now (recovered (D.seen disk.old) batch.old)) }
     ensures below { OnOk result (AreBelow numbers.new batch.new) }
-    ensures held { IsTrue D.tells → OnOk result (Holds (D.seen disk.new) batch.new) }
-    ensures numbered { IsTrue D.tells →
+    ensures held { IsTrue D.is_known → OnOk result (Holds (D.seen disk.new) batch.new) }
+    ensures numbered { IsTrue D.is_known →
         OnOk result (AreNumbered numbers.new (staged (D.seen disk.new) batch.new)) }
-    ensures shut { IsTrue D.tells → IsShut (D.seen disk.new) (D.touched disk.new) }
-    ensures change { IsTrue D.tells → Changes InBatch D.seen D.touched disk.old disk.new }
-    ensures crash { IsTrue D.tells → LeavesOnly D.clock D.left_since disk.old disk.new
+    ensures shut { IsTrue D.is_known → IsShut (D.seen disk.new) (D.touched disk.new) }
+    ensures change { IsTrue D.is_known → Changes InBatch D.seen D.touched disk.old disk.new }
+    ensures crash { IsTrue D.is_known → LeavesOnly D.clock D.left_since disk.old disk.new
         (SameOutside (D.seen disk.old) (D.touched disk.old)) }
     ensures cause { HasStoreCause (D.faults disk.old) (D.faults disk.new) result }
 {
@@ -71,18 +71,18 @@ fn renew<D: Disk>(
     requires place { 5 ≤ a.file }
     requires noted { number_of numbers.now a ≡ Some i }
     requires below { AreBelow numbers.now batch.old }
-    requires shut { IsTrue D.tells → IsShut (D.seen disk.old) (D.touched disk.old) }
-    requires held { IsTrue D.tells → Holds (D.seen disk.old) batch.old }
-    requires numbered { IsTrue D.tells → AreNumbered numbers.now (staged (D.seen disk.old) batch.old) }
-    ensures page { IsTrue D.tells → OnOk result (standing (D.seen disk.new) batch.new
-        ≡ with_page a page.now (standing (D.seen disk.old) batch.old)) }
+    requires shut { IsTrue D.is_known → IsShut (D.seen disk.old) (D.touched disk.old) }
+    requires held { IsTrue D.is_known → Holds (D.seen disk.old) batch.old }
+    requires numbered { IsTrue D.is_known → AreNumbered numbers.now (staged (D.seen disk.old) batch.old) }
+    ensures page { IsTrue D.is_known → OnOk result (recovered (D.seen disk.new) batch.new
+        ≡ with_page a page.now (recovered (D.seen disk.old) batch.old)) }
     ensures below { AreBelow numbers.now batch.new }
-    ensures held { IsTrue D.tells → OnOk result (Holds (D.seen disk.new) batch.new) }
-    ensures numbered { IsTrue D.tells →
+    ensures held { IsTrue D.is_known → OnOk result (Holds (D.seen disk.new) batch.new) }
+    ensures numbered { IsTrue D.is_known →
         OnOk result (AreNumbered numbers.now (staged (D.seen disk.new) batch.new)) }
-    ensures shut { IsTrue D.tells → IsShut (D.seen disk.new) (D.touched disk.new) }
-    ensures change { IsTrue D.tells → Changes InBatch D.seen D.touched disk.old disk.new }
-    ensures crash { IsTrue D.tells → LeavesOnly D.clock D.left_since disk.old disk.new
+    ensures shut { IsTrue D.is_known → IsShut (D.seen disk.new) (D.touched disk.new) }
+    ensures change { IsTrue D.is_known → Changes InBatch D.seen D.touched disk.old disk.new }
+    ensures crash { IsTrue D.is_known → LeavesOnly D.clock D.left_since disk.old disk.new
         (SameOutside (D.seen disk.old) (D.touched disk.old)) }
     ensures cause { HasStoreCause (D.faults disk.old) (D.faults disk.new) result }
 {
@@ -102,18 +102,18 @@ fn add<D: Disk>(
 ) -> Result<(), StoreFault>
     requires place { 5 ≤ a.file }
     requires below { AreBelow numbers.old batch.old }
-    requires shut { IsTrue D.tells → IsShut (D.seen disk.old) (D.touched disk.old) }
-    requires held { IsTrue D.tells → Holds (D.seen disk.old) batch.old }
-    requires numbered { IsTrue D.tells → AreNumbered numbers.old (staged (D.seen disk.old) batch.old) }
-    ensures page { IsTrue D.tells → OnOk result (standing (D.seen disk.new) batch.new
-        ≡ with_page a page.now (standing (D.seen disk.old) batch.old)) }
+    requires shut { IsTrue D.is_known → IsShut (D.seen disk.old) (D.touched disk.old) }
+    requires held { IsTrue D.is_known → Holds (D.seen disk.old) batch.old }
+    requires numbered { IsTrue D.is_known → AreNumbered numbers.old (staged (D.seen disk.old) batch.old) }
+    ensures page { IsTrue D.is_known → OnOk result (recovered (D.seen disk.new) batch.new
+        ≡ with_page a page.now (recovered (D.seen disk.old) batch.old)) }
     ensures below { OnOk result (AreBelow numbers.new batch.new) }
-    ensures held { IsTrue D.tells → OnOk result (Holds (D.seen disk.new) batch.new) }
-    ensures numbered { IsTrue D.tells →
+    ensures held { IsTrue D.is_known → OnOk result (Holds (D.seen disk.new) batch.new) }
+    ensures numbered { IsTrue D.is_known →
         OnOk result (AreNumbered numbers.new (staged (D.seen disk.new) batch.new)) }
-    ensures shut { IsTrue D.tells → IsShut (D.seen disk.new) (D.touched disk.new) }
-    ensures change { IsTrue D.tells → Changes InBatch D.seen D.touched disk.old disk.new }
-    ensures crash { IsTrue D.tells → LeavesOnly D.clock D.left_since disk.old disk.new
+    ensures shut { IsTrue D.is_known → IsShut (D.seen disk.new) (D.touched disk.new) }
+    ensures change { IsTrue D.is_known → Changes InBatch D.seen D.touched disk.old disk.new }
+    ensures crash { IsTrue D.is_known → LeavesOnly D.clock D.left_since disk.old disk.new
         (SameOutside (D.seen disk.old) (D.touched disk.old)) }
     ensures cause { HasStoreCause (D.faults disk.old) (D.faults disk.new) result }
 {

@@ -3,7 +3,7 @@
 use crate::BatchStore;
 use crate::reading::read_page;
 use crate::staging::{forget, stage};
-use access_traits::{PageStore, StoreFault};
+use am_traits::{PageStore, StoreFault};
 use disk_model::{Addr, Disk, Page};
 
 impl<D: Disk> PageStore for BatchStore<D> {

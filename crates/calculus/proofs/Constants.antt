@@ -1,20 +1,20 @@
 -- Text constants, byte by byte.
 use Rattle.std.proofs.Common.{◌≡◌, refl, sym, ap, ◌∙◌, ℕ, ◌+◌, ◌<◌, ◌≤◌, Bool, false, List, [], ◌∷◌, length, map, get_or, slice_get, option_map, Some, None, IsTrue, arith}
 use Rattle.std.proofs.lemmas.Option.{slice_get-map, slice_get-get_or}
-use Rattle.calculus.specs.declared.mark.Mark.{Mark}
+use Rattle.calculus.specs.declared.unescaped.Unescaped.{Unescaped}
 use Rattle.calculus.specs.declared.value.Kind.{Kind}
 use Rattle.calculus.specs.Text.{is_blank, before_trimmed, trimmed}
-use Rattle.calculus.specs.Constant.{marks, plain_bytes, constant_text}
+use Rattle.calculus.specs.Constant.{unescaped, plain_bytes, constant_text}
 use Rattle.calculus.specs.Chars.{is_chars}
 use Rattle.calculus.specs.Kinds.{attribute_kind, kind_in}
 
 -- the text of a constant, from its first byte on
-pub text_step : (w r : List ℕ) (m : Mark) → marks w ≡ m ∷ marks r → constant_text w ≡ before_trimmed m.byte (constant_text r)
+pub text_step : (w r : List ℕ) (m : Unescaped) → unescaped w ≡ m ∷ unescaped r → constant_text w ≡ before_trimmed m.byte (constant_text r)
 unfolding constant_text
 text_step w r m h = ap (λ ms. trimmed (plain_bytes ms)) h
 
 pub no_text : constant_text [] ≡ []
-unfolding constant_text marks
+unfolding constant_text unescaped
 no_text = refl
 
 -- how many bytes are kept where so many were read, so many of these are kept if only blanks follow, and this text follows

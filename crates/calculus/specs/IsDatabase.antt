@@ -78,8 +78,8 @@ keys_stand attrs keys = list_all (λ k. nat_lt k (length attrs)) keys && (differ
 -- ---- relations
 
 -- the structure of a base relation: one without keys, or one whose rows lie by at least one key attribute
-abbrev pub structure_stands : RelInfo → Bool
-structure_stands info = elim (is_keyed info.spec) [
+abbrev pub valid_structure : RelInfo → Bool
+valid_structure info = elim (is_keyed info.spec) [
   | true ↦ is_any info.keys && keys_stand info.attrs info.keys
   | false ↦ is_structure info.spec && not (is_any info.keys)
 ]
@@ -108,8 +108,8 @@ relation_rows_fit r = list_all (row_fits r.info.attrs) r.rows
 -- ---- indexes
 
 -- an index: no attributes of its own, and at least one key attribute of a base relation that is there
-abbrev pub index_stands : Db → Index → Bool
-index_stands db x =
+abbrev pub valid_index : Db → Index → Bool
+valid_index db x =
     is_index x.info.spec && (is_relation db x.base && (not (is_any x.info.attrs) && (is_any x.info.keys && keys_stand (attrs_at db x.base) x.info.keys)))
 
 -- ---- views
@@ -129,8 +129,8 @@ same_kind (Of d) Wide = false
 same_kind (Of d) (Of e) = same_domain d e
 
 -- a view is kept as a view, and has no keys
-abbrev pub view_info_stands : RelInfo → Bool
-view_info_stands info = is_view info.spec && not (is_any info.keys)
+abbrev pub valid_view_info : RelInfo → Bool
+valid_view_info info = is_view info.spec && not (is_any info.keys)
 
 -- the attributes have the names and kinds of the targets, one by one
 abbrev pub attrs_are_targets : List Attr → List Target → Bool
@@ -149,8 +149,8 @@ has_kind None kind = false
 has_kind (Some k) kind = same_kind k kind
 
 -- the kinds in a query fit and each target is of its kind; so places are in range and there is no aggregate
-abbrev pub query_stands : Db → Query → Bool
-query_stands db q = list_all (λ t. has_kind (kind_of t.term (var_kinds db q)) t.kind) (targets_of q) && kinds_fit (qual_of q) (var_kinds db q)
+abbrev pub valid_query : Db → Query → Bool
+valid_query db q = list_all (λ t. has_kind (kind_of t.term (var_kinds db q)) t.kind) (targets_of q) && kinds_fit (qual_of q) (var_kinds db q)
 
 -- each variable ranges over a base relation, a view or a catalogue that is there
 abbrev pub vars_are_there : Db → Query → Bool
@@ -159,8 +159,8 @@ vars_are_there db q = list_all (λ key. is_some (range_at db key)) (vars_of q)
 -- ---- rules and permits
 
 -- the kinds in a qualification over a row of the relation fit; so it names attributes of that row alone, and there is no aggregate
-abbrev pub row_qual_stands : Db → RelKey → QQual → Bool
-row_qual_stands db rel q = kinds_fit q (kinds_at db rel ∷ [])
+abbrev pub valid_row_qual : Db → RelKey → QQual → Bool
+valid_row_qual db rel q = kinds_fit q (kinds_at db rel ∷ [])
 
 -- the user whom a permit names has a name
 abbrev pub user_is_named : Option (List ℕ) → Bool
@@ -172,9 +172,9 @@ abbrev pub permit_attrs_stand : Db → RelKey → List ℕ → Bool
 permit_attrs_stand db rel attrs = list_all (λ a. nat_lt a (length (attrs_at db rel))) attrs
 
 -- a permit stands on a base relation of the administrator's
-abbrev pub permit_stands : Db → RelKey → Permit → Bool
-permit_stands db rel permit =
-    is_relation db rel && (bytes_eq rel.owner db.dba && (user_is_named permit.user && (permit_attrs_stand db rel permit.attrs && row_qual_stands db rel permit.qual)))
+abbrev pub valid_permit : Db → RelKey → Permit → Bool
+valid_permit db rel permit =
+    is_relation db rel && (bytes_eq rel.owner db.dba && (user_is_named permit.user && (permit_attrs_stand db rel permit.attrs && valid_row_qual db rel permit.qual)))
 
 -- ---- the facts
 
@@ -191,23 +191,23 @@ pub record IsDatabase (db : Db) : Type 0 where
   pub permits_ascend : IsStrictlySortedBy (numbered_cmp (λ p. p.number)) db.permits
   pub keys_differ : IsTrue (differ_by same_key (map (λ i. i.key) (entries db)))
   -- each relation has a structure, attributes with domains, and a set of rows that fit
-  pub structures_stand : IsTrue (list_all (λ r. structure_stands r.info) db.relations)
+  pub structures_stand : IsTrue (list_all (λ r. valid_structure r.info) db.relations)
   pub relation_attrs_stand : IsTrue (list_all (λ r. attrs_stand r.info.attrs) db.relations)
   pub relations_are_stored : IsTrue (list_all (λ r. are_stored r.info.attrs) db.relations)
   pub rows_ascend : AllByRecursion (λ r. Ascends r.rows) db.relations
   pub rows_fit : IsTrue (list_all relation_rows_fit db.relations)
   -- each index has key attributes of a base relation
-  pub indexes_stand : IsTrue (list_all (index_stands db) db.indexes)
+  pub indexes_stand : IsTrue (list_all (valid_index db) db.indexes)
   -- each view has the attributes that its query gives it; what the query names is there and has a smaller level, and its kinds fit
-  pub view_infos_stand : IsTrue (list_all (λ v. view_info_stands v.info) db.views)
+  pub view_infos_stand : IsTrue (list_all (λ v. valid_view_info v.info) db.views)
   pub view_attrs_stand : IsTrue (list_all (λ v. attrs_stand v.info.attrs) db.views)
   pub view_attrs_are_targets : IsTrue (list_all (λ v. attrs_are_targets v.info.attrs (targets_of v.query)) db.views)
   pub views_name_what_is_there : IsTrue (list_all (λ v. vars_are_there db v.query) db.views)
   pub views_have_levels : IsTrue (list_all (λ v. is_some (level_of db v.info.key)) db.views)
-  pub view_queries_stand : IsTrue (list_all (λ v. query_stands db v.query) db.views)
+  pub view_queries_stand : IsTrue (list_all (λ v. valid_query db v.query) db.views)
   -- rules stand on base relations, permits on those of the administrator
-  pub rules_stand : IsTrue (list_all (λ p. is_relation db p.0 && row_qual_stands db p.0 p.1.qual) db.rules)
-  pub permits_stand : IsTrue (list_all (λ p. permit_stands db p.0 p.1) db.permits)
+  pub rules_stand : IsTrue (list_all (λ p. is_relation db p.0 && valid_row_qual db p.0 p.1.qual) db.rules)
+  pub permits_stand : IsTrue (list_all (λ p. valid_permit db p.0 p.1) db.permits)
   -- the limits hold, and what is stored as a tree can be
   pub few_entries : IsTrue (nat_le (length (entries db)) most_entries)
   pub few_rows : IsTrue (list_all (λ r. nat_le (length r.rows) most_rows) db.relations)

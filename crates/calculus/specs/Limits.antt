@@ -17,11 +17,11 @@ most_keys = 6
 abbrev pub most_variables : ℕ
 most_variables = 10
 
--- the variables of a query once the views in it are put in
+-- the variables of a query once the views in it are expanded
 abbrev pub most_expanded_variables : ℕ
 most_expanded_variables = 50
 
--- the size of a view once the views in it are put in
+-- the size of a view once the views in it are expanded
 abbrev pub greatest_size : ℕ
 greatest_size = 1000
 

@@ -62,13 +62,13 @@ is_append Into = false
 abbrev pub may_append : Db → Who → Update → Row → Bool
 may_append db who u row = holds no_aggs u.new_cut (row ∷ []) && may db who right.Append u.places u.rel row
 
--- a new row stands where all checks of the update hold of it and, in an append, where it may be appended
-abbrev pub new_stands : Db → Who → Update → Row → Bool
-new_stands db who u row = list_all (λ q. holds no_aggs q (row ∷ [])) u.checks && (if is_append u.op then may_append db who u row else true)
+-- a new row is allowed where all checks of the update hold of it and, in an append, where it may be appended
+abbrev pub new_allowed : Db → Who → Update → Row → Bool
+new_allowed db who u row = list_all (λ q. holds no_aggs q (row ∷ [])) u.checks && (if is_append u.op then may_append db who u row else true)
 
--- a pair stands where its new row does, if it has one
-abbrev pub pair_stands : Db → Who → Update → Pair → Bool
-pair_stands db who u p = elim p.new [ None ↦ true | Some row ↦ new_stands db who u row ]
+-- a pair is allowed where its new row is, if it has one
+abbrev pub pair_allowed : Db → Who → Update → Pair → Bool
+pair_allowed db who u p = elim p.new [ None ↦ true | Some row ↦ new_allowed db who u row ]
 
 -- the assignments of an update in which its qualification holds
 abbrev pub qualifying_updates : Db → Who → Update → List Changing
@@ -76,7 +76,7 @@ qualifying_updates db who u = filter (λ c. holds (aggregates db who) (qual_of u
 
 -- the pairs of an update, one for each qualifying assignment, without those that don't stand
 unfoldable pub pairs : Db → Who → Update → List Pair
-pairs db who u = filter (pair_stands db who u) (filter_map (pair_at db who u) (qualifying_updates db who u))
+pairs db who u = filter (pair_allowed db who u) (filter_map (pair_at db who u) (qualifying_updates db who u))
 
 -- ---- the rules of the relation
 

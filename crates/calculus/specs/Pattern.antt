@@ -1,8 +1,8 @@
 -- The patterns that texts are matched against.
 use Rattle.std.specs.Prelude.{ℕ, zero, suc, Bool, true, false, not, ◌&&◌, ◌||◌, if◌then◌else◌, nat_le, ◌==◌, ◌≡◌, List, [], ◌∷◌, ◌++◌, take, Option, Some, None, IsTrue}
 use Rattle.std.specs.List.{list_any}
-use Rattle.calculus.specs.Constant.{marks}
-use Rattle.calculus.specs.declared.mark.Mark.{Mark}
+use Rattle.calculus.specs.Constant.{unescaped}
+use Rattle.calculus.specs.declared.unescaped.Unescaped.{Unescaped}
 
 -- ---- the items of a pattern
 
@@ -14,16 +14,16 @@ pub data Item : Type 0 where
   Class : List (ℕ × ℕ) → Item
 
 -- this byte, with no backslash in front
-abbrev pub is_bare : ℕ → Mark → Bool
+abbrev pub is_bare : ℕ → Unescaped → Bool
 is_bare b m = (m.byte == b) && not m.plain
 
 -- the byte in front of the others, but a bare blank in front of nothing is dropped
-abbrev pub before_unpadded : Mark → List Mark → List Mark
+abbrev pub before_unpadded : Unescaped → List Unescaped → List Unescaped
 before_unpadded m [] = if is_bare 32 m then [] else m ∷ []
 before_unpadded m (n ∷ ms) = m ∷ n ∷ ms
 
 -- without the bare blanks at the end
-abbrev pub unpadded : List Mark → List Mark
+abbrev pub unpadded : List Unescaped → List Unescaped
 unpadded [] = []
 unpadded (m ∷ ms) = before_unpadded m (unpadded ms)
 
@@ -33,24 +33,24 @@ one_more None = None
 one_more (Some n) = Some (suc n)
 
 -- how many bytes stand in front of the first bare `]`
-abbrev pub class_length : List Mark → Option ℕ
+abbrev pub class_length : List Unescaped → Option ℕ
 class_length [] = None
 class_length (m ∷ ms) = elim (is_bare 93 m) [ true ↦ Some 0 | false ↦ one_more (class_length ms) ]
 
 -- the members of a class from left to right: a byte, a bare `-` and a byte are a range, any other byte is a range of one
-abbrev pub ranges : List Mark → List (ℕ × ℕ)
+abbrev pub ranges : List Unescaped → List (ℕ × ℕ)
 ranges [] = []
 ranges (m ∷ []) = (m.byte, m.byte) ∷ []
 ranges (m ∷ n ∷ []) = (m.byte, m.byte) ∷ (n.byte, n.byte) ∷ []
 ranges (m ∷ n ∷ o ∷ ms) = elim (is_bare 45 n) [ true ↦ (m.byte, o.byte) ∷ ranges ms | false ↦ (m.byte, m.byte) ∷ ranges (n ∷ o ∷ ms) ]
 
 -- what a bare `[` begins: the class up to the `]`, or the byte itself where none follows
-abbrev pub bracket_items : (ℕ → List Item) → List Mark → Option ℕ → List Item
+abbrev pub bracket_items : (ℕ → List Item) → List Unescaped → Option ℕ → List Item
 bracket_items behind ms None = Byte 91 ∷ behind 0
 bracket_items behind ms (Some n) = Class (ranges (take n ms)) ∷ behind (suc n)
 
 -- the items from this byte on, where `behind k` are those behind the next k bytes
-abbrev pub items_at : (ℕ → List Item) → Mark → List Mark → List Item
+abbrev pub items_at : (ℕ → List Item) → Unescaped → List Unescaped → List Item
 items_at behind m ms =
     if is_bare 42 m then AnyText ∷ behind 0
     else (if is_bare 63 m then AnyByte ∷ behind 0
@@ -58,14 +58,14 @@ items_at behind m ms =
     else Byte m.byte ∷ behind 0))
 
 -- the items behind the first k bytes
-abbrev pub items_behind : ℕ → List Mark → List Item
+abbrev pub items_behind : ℕ → List Unescaped → List Item
 items_behind k [] = []
 items_behind zero (m ∷ ms) = items_at (λ k. items_behind k ms) m ms
 items_behind (suc k) (m ∷ ms) = items_behind k ms
 
 -- the items of a pattern
 unfoldable pub items : List ℕ → List Item
-items pattern = items_behind 0 (unpadded (marks pattern))
+items pattern = items_behind 0 (unpadded (unescaped pattern))
 
 -- ---- matching
 

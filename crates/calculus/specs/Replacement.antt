@@ -117,9 +117,9 @@ update_refusals db who u =
     ∷ []
 
 -- the first cause that is there
-abbrev pub first_cause : List (ℕ × Bool) → Option ℕ
-first_cause [] = None
-first_cause (c ∷ cs) = elim c.1 [ true ↦ Some c.0 | false ↦ first_cause cs ]
+abbrev pub first_refusal : List (ℕ × Bool) → Option ℕ
+first_refusal [] = None
+first_refusal (c ∷ cs) = elim c.1 [ true ↦ Some c.0 | false ↦ first_refusal cs ]
 
 -- ---- the change
 
@@ -142,4 +142,4 @@ change_of db who u = elim u.op [
 
 -- the change that an update makes, or the number of the cause that refuses it
 unfoldable pub updated : Db → Who → Update → Result DbChange ℕ
-updated db who u = elim (first_cause (update_refusals db who u)) [ None ↦ Ok (change_of db who u) | Some number ↦ Err number ]
+updated db who u = elim (first_refusal (update_refusals db who u)) [ None ↦ Ok (change_of db who u) | Some number ↦ Err number ]

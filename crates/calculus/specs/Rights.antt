@@ -6,7 +6,7 @@ use Rattle.calculus.specs.declared.schema.Permit.{Permit}
 use Rattle.calculus.specs.Rows.{Row}
 use Rattle.calculus.specs.Term.{holds, no_aggs}
 use Rattle.calculus.specs.Lists.{has_number}
-use Rattle.calculus.specs.Who.{Who, Asker, Free, Asks}
+use Rattle.calculus.specs.Who.{Who, Asker, Unrestricted, AsUser}
 use Rattle.calculus.specs.Database.{Db, permits_on}
 use Rattle.calculus.specs.Catalogue.{is_catalogue}
 
@@ -59,11 +59,11 @@ needs_none db asker right key = bytes_eq key.owner asker.user || (is_catalogue d
 
 -- no permit is needed, or some permit of the relation covers
 unfoldable pub permitted : Db → Who → Right → List ℕ → RelKey → Bool
-permitted db Free right attrs key = true
-permitted db (Asks asker) right attrs key = needs_none db asker right key || list_any (λ p. covers p asker right attrs) (permits_on db key)
+permitted db Unrestricted right attrs key = true
+permitted db (AsUser asker) right attrs key = needs_none db asker right key || list_any (λ p. covers p asker right attrs) (permits_on db key)
 
 -- no permit is needed, or some permit of the relation covers and its qualification holds of the row
 unfoldable pub may : Db → Who → Right → List ℕ → RelKey → Row → Bool
-may db Free right attrs key row = true
-may db (Asks asker) right attrs key row =
+may db Unrestricted right attrs key row = true
+may db (AsUser asker) right attrs key row =
     needs_none db asker right key || list_any (λ p. covers p asker right attrs && holds no_aggs p.qual (row ∷ [])) (permits_on db key)

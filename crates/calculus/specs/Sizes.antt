@@ -1,4 +1,4 @@
--- How large queries and views are once the views in them are put in: levels, variables and sizes, each from what is known of the views below.
+-- How large queries and views are once the views in them are expanded: levels, variables and sizes, each from what is known of the views below.
 use Rattle.std.specs.Prelude.{ℕ, suc, ◌+◌, max, ◌||◌, filter, List, [], ◌∷◌, map, length, sum, sum_by, slice_get, Option, Some, None, option_map, unwrap_or}
 use Rattle.std.specs.List.{enumerate_from}
 use Rattle.calculus.specs.declared.query.RelKey.{RelKey}
@@ -51,7 +51,7 @@ level_of db key = level_within greatest_level db key
 
 -- ---- sizes
 
--- what a variable is once the views in it are put in: how many variables, the sizes of its attributes, and the size of its qualification
+-- what a variable is once the views in it are expanded: how many variables, the sizes of its attributes, and the size of its qualification
 pub record Measure : Type 0 where
   pub variables : ℕ
   pub attrs : List ℕ
@@ -133,12 +133,12 @@ query_size db q = let m = query_measure (measure_of db) q in sum m.attrs + m.qua
 unfoldable pub variables : Query → ℕ
 variables q = length (used_vars q) + length (query_aggregates q)
 
--- the variables of an aggregate's source once the views in it are put in
+-- the variables of an aggregate's source once the views in it are expanded
 abbrev pub source_variables : Known → AggSource → ℕ
 source_variables known (Named key) = (known key).variables
 source_variables known (rows_of_query q) = (query_measure known q).variables
 
--- the variables of a query once the views in it are put in
+-- the variables of a query once the views in it are expanded
 unfoldable pub expanded_variables : Db → Query → ℕ
 expanded_variables db q = (query_measure (measure_of db) q).variables + sum_by (λ g. source_variables (measure_of db) g.source) (query_aggregates q)
 
@@ -152,7 +152,7 @@ update_vars u = filter (λ p. is_any (used_in_query p.0 u.query) || is_changed u
 unfoldable pub update_variables : Update → ℕ
 update_variables u = length (update_vars u) + length (query_aggregates u.query)
 
--- the variables of an update once the views in it are put in
+-- the variables of an update once the views in it are expanded
 unfoldable pub update_expanded_variables : Db → Update → ℕ
 update_expanded_variables db u =
     sum_by (λ p. (measure_of db p.1).variables) (update_vars u) + sum_by (λ g. source_variables (measure_of db) g.source) (query_aggregates u.query)

@@ -1,5 +1,5 @@
 -- What is said of what stands under a key, through the views that stand on each other there: the one way in which rows, rights, levels, sizes and
--- what is read are told of views from what is told of the keys that they name.
+-- what is read are told of views from what is known of the keys that they name.
 use Rattle.std.specs.Prelude.{ℕ, zero, suc, Option}
 use Rattle.calculus.specs.declared.query.RelKey.{RelKey}
 use Rattle.calculus.specs.Database.{Db, View}

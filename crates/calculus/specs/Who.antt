@@ -9,11 +9,11 @@ pub record Asker : Type 0 where
 abbrev pub asker_of : List ℕ → Asker
 asker_of user = record { user = user }
 
--- nobody in particular, whom no permit binds, or one who asks
+-- whoever is unrestricted, whom no permit binds, or one who asks
 pub data Who : Type 0 where
-  Free : Who
-  Asks : Asker → Who
+  Unrestricted : Who
+  AsUser : Asker → Who
 
 -- this user asks
-abbrev pub asks : List ℕ → Who
-asks user = Asks (asker_of user)
+abbrev pub as_user : List ℕ → Who
+as_user user = AsUser (asker_of user)

@@ -2,10 +2,11 @@
 
 ghost use Rattle.std.specs.Prelude.{◌≡◌, ◌≤◌, length, map, vec_items};
 ghost use Rattle.calculus.specs.Constant.{constant_text};
+ghost use Rattle.calculus.specs.Replacement.{made_attr};
 ghost use Rattle.calculus.specs.Kinds.{kind_of, kinds_fit, attribute_kind, constant_kind, text_width, is_number_kind, number_kind, operated_kind, joined_kind, comparable, is_text_kind};
 
-use crate::mark::next_mark;
-use crate::query::{QQual, QTerm};
+use crate::query::{QQual, QTerm, Target};
+use crate::unescaped::next_unescaped;
 use crate::value::{Domain, Kind};
 
 /// The number of bytes of a text constant, escapes removed and without the blanks at their end.
@@ -16,9 +17,9 @@ fn constant_length(written: &[u8]) -> usize
     let mut rest = written;
     let mut read = 0;
     let mut kept = 0;
-    'bytes: while let Some((mark, behind)) = next_mark(rest) {
+    'bytes: while let Some((unescaped_byte, behind)) = next_unescaped(rest) {
         read += 1;
-        if mark.byte != b' ' {
+        if unescaped_byte.byte != b' ' {
             kept = read;
         }
         rest = behind;
@@ -56,7 +57,8 @@ fn text_width(kind: Kind) -> Option<u8>
     }
 }
 
-fn is_number_kind(kind: Kind) -> bool
+/// Whether it is a kind of numbers.
+pub fn is_number_kind(kind: Kind) -> bool
     ensures { result ≡ is_number_kind kind }
 {
     match kind {
@@ -65,8 +67,9 @@ fn is_number_kind(kind: Kind) -> bool
     }
 }
 
+/// Whole numbers of 64 bits where the kind is one of numbers.
 #[tactic(auto, unfolding(crate::specs::Kinds::number_kind))]
-fn number_kind(kind: Option<Kind>) -> Option<Kind>
+pub fn number_kind(kind: Option<Kind>) -> Option<Kind>
     ensures { result ≡ number_kind kind }
 {
     if is_number_kind(kind?) {
@@ -76,8 +79,9 @@ fn number_kind(kind: Option<Kind>) -> Option<Kind>
     }
 }
 
+/// Whole numbers of 64 bits where both kinds are ones of numbers.
 #[tactic(auto, unfolding(crate::specs::Kinds::operated_kind))]
-fn operated_kind(left: Option<Kind>, right: Option<Kind>) -> Option<Kind>
+pub fn operated_kind(left: Option<Kind>, right: Option<Kind>) -> Option<Kind>
     ensures { result ≡ operated_kind left right }
 {
     if is_number_kind(left?) {
@@ -87,8 +91,9 @@ fn operated_kind(left: Option<Kind>, right: Option<Kind>) -> Option<Kind>
     }
 }
 
+/// Texts of both widths together where both kinds are ones of texts.
 #[tactic(auto, unfolding(crate::specs::Kinds::joined_kind))]
-fn joined_kind(left: Option<Kind>, right: Option<Kind>) -> Option<Kind>
+pub fn joined_kind(left: Option<Kind>, right: Option<Kind>) -> Option<Kind>
     ensures { result ≡ joined_kind left right }
 {
     let (left, right) = (left?, right?);
@@ -97,8 +102,9 @@ fn joined_kind(left: Option<Kind>, right: Option<Kind>) -> Option<Kind>
     Some(Kind::Of(Domain::C(front.saturating_add(behind))))
 }
 
+/// Whether both are there and are kinds of numbers, or both are kinds of texts.
 #[tactic(auto, unfolding(crate::specs::Kinds::comparable))]
-fn comparable(left: Option<Kind>, right: Option<Kind>) -> bool
+pub fn comparable(left: Option<Kind>, right: Option<Kind>) -> bool
     ensures { result ≡ comparable left right }
 {
     match (left, right) {
@@ -107,13 +113,24 @@ fn comparable(left: Option<Kind>, right: Option<Kind>) -> bool
     }
 }
 
+/// Whether it is there and is a kind of texts.
 #[tactic(auto, unfolding(crate::specs::Kinds::is_text_kind))]
-fn is_text_kind(kind: Option<Kind>) -> bool
+pub fn is_text_kind(kind: Option<Kind>) -> bool
     ensures { result ≡ is_text_kind kind }
 {
     match kind {
         Some(kind) => !is_number_kind(kind),
         None => false,
+    }
+}
+
+/// The kind of the attribute that is made of a target: numbers of 64 bits become ones of 32.
+pub fn made_kind(target: &Target) -> Kind
+    ensures { result ≡ (made_attr target.now).kind }
+{
+    match target.kind {
+        Kind::Wide => Kind::Of(Domain::I4),
+        Kind::Of(domain) => Kind::Of(domain),
     }
 }
 

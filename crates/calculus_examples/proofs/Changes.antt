@@ -8,7 +8,7 @@ use Rattle.calculus.specs.Chars.{is_chars}
 use Rattle.calculus.specs.Aggregate.{aggregates}
 use Rattle.calculus.specs.Assignments.{assigned}
 use Rattle.calculus.specs.Catalogue.{catalogue_at}
-use Rattle.calculus.specs.Constant.{constant_text, marks}
+use Rattle.calculus.specs.Constant.{constant_text, unescaped}
 use Rattle.calculus.specs.Kinds.{kind_of, attribute_kind, constant_kind, number_kind, operated_kind, joined_kind, is_text_kind, kinds_fit, comparable}
 use Rattle.calculus.specs.Pattern.{matches, items, fits_items}
 use Rattle.calculus.specs.QueryParts.{term_aggregates, qual_aggregates}
@@ -22,11 +22,11 @@ use Rattle.calculus.specs.Finding.{found}
 use Rattle.calculus_examples.specs.Changes.{Outcomes, Lawful}
 
 pub outcomes : Outcomes
-unfolding laid names_what_is_there adds_what_is_new lists_once is_name is_text is_chars aggregates assigned catalogue_at constant_text marks kind_of attribute_kind constant_kind number_kind operated_kind joined_kind is_text_kind kinds_fit comparable matches items fits_items term_aggregates qual_aggregates may covers permitted level_of term_size qual_size measure_of query_size variables expanded_variables range_at info_at rows_given some_lacks val holds attribute_value opposite_value value_without_sign operated_values joined_values compared_values matched_value values_of rows_of found
+unfolding laid names_what_is_there adds_what_is_new lists_once is_name is_text is_chars aggregates assigned catalogue_at constant_text unescaped kind_of attribute_kind constant_kind number_kind operated_kind joined_kind is_text_kind kinds_fit comparable matches items fits_items term_aggregates qual_aggregates may covers permitted level_of term_size qual_size measure_of query_size variables expanded_variables range_at info_at rows_given some_lacks val holds attribute_value opposite_value value_without_sign operated_values joined_values compared_values matched_value values_of rows_of found
 outcomes = record { a_structure_takes_the_indexes = refl; a_permit_in_its_place = refl; all_goes_with_a_relation = refl; rows_stay_a_set = refl; an_index_is_found_by_nobody = refl; its_relation_is = refl; a_catalogue_is_found_last = refl }
 
 pub lawful : Lawful
-unfolding laid names_what_is_there adds_what_is_new lists_once is_name is_text is_chars aggregates assigned catalogue_at constant_text marks kind_of attribute_kind constant_kind number_kind operated_kind joined_kind is_text_kind kinds_fit comparable matches items fits_items term_aggregates qual_aggregates may covers permitted level_of term_size qual_size measure_of query_size variables expanded_variables range_at info_at rows_given some_lacks val holds attribute_value opposite_value value_without_sign operated_values joined_values compared_values matched_value values_of rows_of found IsStrictlySortedBy
+unfolding laid names_what_is_there adds_what_is_new lists_once is_name is_text is_chars aggregates assigned catalogue_at constant_text unescaped kind_of attribute_kind constant_kind number_kind operated_kind joined_kind is_text_kind kinds_fit comparable matches items fits_items term_aggregates qual_aggregates may covers permitted level_of term_size qual_size measure_of query_size variables expanded_variables range_at info_at rows_given some_lacks val holds attribute_value opposite_value value_without_sign operated_values joined_values compared_values matched_value values_of rows_of found IsStrictlySortedBy
 lawful = record {
   is_one = record { dba_is_named = refl; keys_are_named = refl; relations_ascend = (tt, tt); indexes_ascend = (tt, tt); views_ascend = tt; rules_ascend = (tt, tt); permits_ascend = ((refl, tt), (tt, tt)); keys_differ = refl; structures_stand = refl; relation_attrs_stand = refl; relations_are_stored = refl; rows_ascend = ((tt, tt), tt); rows_fit = refl; indexes_stand = refl; view_infos_stand = refl; view_attrs_stand = refl; view_attrs_are_targets = refl; views_name_what_is_there = refl; views_have_levels = refl; view_queries_stand = refl; rules_stand = refl; permits_stand = refl; few_entries = refl; few_rows = refl; few_listed_variables = refl; few_variables = refl; few_expanded_variables = refl; small_views = refl; storable_views = refl; storable_rules = refl; storable_permits = refl; storable_lists = refl; few_rules = refl; few_permits = refl; small_rule_numbers = refl; small_permit_numbers = refl };
   a_structure = record { names_are_there = refl; additions_are_new = refl; nothing_is_listed_twice = refl; leaves_a_database = record { dba_is_named = refl; keys_are_named = refl; relations_ascend = (tt, tt); indexes_ascend = tt; views_ascend = tt; rules_ascend = (tt, tt); permits_ascend = ((refl, tt), (tt, tt)); keys_differ = refl; structures_stand = refl; relation_attrs_stand = refl; relations_are_stored = refl; rows_ascend = ((tt, tt), tt); rows_fit = refl; indexes_stand = refl; view_infos_stand = refl; view_attrs_stand = refl; view_attrs_are_targets = refl; views_name_what_is_there = refl; views_have_levels = refl; view_queries_stand = refl; rules_stand = refl; permits_stand = refl; few_entries = refl; few_rows = refl; few_listed_variables = refl; few_variables = refl; few_expanded_variables = refl; small_views = refl; storable_views = refl; storable_rules = refl; storable_permits = refl; storable_lists = refl; few_rules = refl; few_permits = refl; small_rule_numbers = refl; small_permit_numbers = refl } };

@@ -4,7 +4,7 @@ use Rattle.calculus.specs.Aggregate.{aggregates}
 use Rattle.calculus.specs.Answer.{answer, lacks}
 use Rattle.calculus.specs.Assignments.{assigned}
 use Rattle.calculus.specs.Catalogue.{catalogue_at}
-use Rattle.calculus.specs.Constant.{constant_text, marks}
+use Rattle.calculus.specs.Constant.{constant_text, unescaped}
 use Rattle.calculus.specs.Kinds.{kind_of, attribute_kind, constant_kind, number_kind, operated_kind, joined_kind, is_text_kind, kinds_fit, comparable}
 use Rattle.calculus.specs.Pattern.{matches, items, fits_items}
 use Rattle.calculus.specs.Rights.{may, covers}
@@ -15,5 +15,5 @@ use Rattle.calculus.specs.VariableRows.{rows_of}
 use Rattle.calculus_examples.specs.Folds.{Answers}
 
 pub answers : Answers
-unfolding val holds attribute_value opposite_value value_without_sign operated_values joined_values compared_values matched_value values_of constant_text marks matches items fits_items kind_of attribute_kind constant_kind number_kind operated_kind joined_kind is_text_kind kinds_fit comparable answer lacks rows_given some_lacks assigned rows_of aggregates range_at info_at catalogue_at may covers
+unfolding val holds attribute_value opposite_value value_without_sign operated_values joined_values compared_values matched_value values_of constant_text unescaped matches items fits_items kind_of attribute_kind constant_kind number_kind operated_kind joined_kind is_text_kind kinds_fit comparable answer lacks rows_given some_lacks assigned rows_of aggregates range_at info_at catalogue_at may covers
 answers = record { a_mean_is_cut_toward_zero = refl; different_values = refl; all_rows = refl; the_greatest_of_none = refl; there_is_one = refl; the_least = refl; sum_of_different = refl; a_row_without_a_value = refl; even_a_count_lacks = refl }

@@ -4,7 +4,7 @@ use Rattle.calculus.specs.Aggregate.{aggregates}
 use Rattle.calculus.specs.Answer.{answer, lacks}
 use Rattle.calculus.specs.Assignments.{assigned, update_assigned}
 use Rattle.calculus.specs.Catalogue.{catalogue_at}
-use Rattle.calculus.specs.Constant.{constant_text, marks}
+use Rattle.calculus.specs.Constant.{constant_text, unescaped}
 use Rattle.calculus.specs.Kinds.{kind_of, attribute_kind, constant_kind, number_kind, operated_kind, joined_kind, is_text_kind, kinds_fit, comparable}
 use Rattle.calculus.specs.Pairs.{pairs, ruled}
 use Rattle.calculus.specs.Pattern.{matches, items, fits_items}
@@ -17,5 +17,5 @@ use Rattle.calculus.specs.VariableRows.{rows_of}
 use Rattle.calculus_examples.specs.Rules.{Outcomes}
 
 pub outcomes : Outcomes
-unfolding val holds attribute_value opposite_value value_without_sign operated_values joined_values compared_values matched_value values_of constant_text marks matches items fits_items kind_of attribute_kind constant_kind number_kind operated_kind joined_kind is_text_kind kinds_fit comparable answer lacks rows_given some_lacks assigned rows_of aggregates range_at info_at catalogue_at may covers updated pairs ruled after contended update_assigned
+unfolding val holds attribute_value opposite_value value_without_sign operated_values joined_values compared_values matched_value values_of constant_text unescaped matches items fits_items kind_of attribute_kind constant_kind number_kind operated_kind joined_kind is_text_kind kinds_fit comparable answer lacks rows_given some_lacks assigned rows_of aggregates range_at info_at catalogue_at may covers updated pairs ruled after contended update_assigned
 outcomes = record { the_old_row_stays = refl; a_tree_has_its_checks_alone = refl }

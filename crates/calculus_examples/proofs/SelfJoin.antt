@@ -4,7 +4,7 @@ use Rattle.calculus.specs.Aggregate.{aggregates}
 use Rattle.calculus.specs.Answer.{answer, lacks}
 use Rattle.calculus.specs.Assignments.{assigned}
 use Rattle.calculus.specs.Catalogue.{catalogue_at}
-use Rattle.calculus.specs.Constant.{constant_text, marks}
+use Rattle.calculus.specs.Constant.{constant_text, unescaped}
 use Rattle.calculus.specs.Pattern.{matches, items, fits_items}
 use Rattle.calculus.specs.Rights.{may, covers}
 use Rattle.calculus.specs.Stored.{range_at, info_at}
@@ -14,5 +14,5 @@ use Rattle.calculus.specs.VariableRows.{rows_of}
 use Rattle.calculus_examples.specs.SelfJoin.{Answers}
 
 pub answers : Answers
-unfolding val holds attribute_value opposite_value value_without_sign operated_values joined_values compared_values matched_value values_of constant_text marks matches items fits_items answer lacks rows_given some_lacks assigned rows_of aggregates range_at info_at catalogue_at may covers
+unfolding val holds attribute_value opposite_value value_without_sign operated_values joined_values compared_values matched_value values_of constant_text unescaped matches items fits_items answer lacks rows_given some_lacks assigned rows_of aggregates range_at info_at catalogue_at may covers
 answers = record { both_rows_vary = refl; one_is_big = refl }

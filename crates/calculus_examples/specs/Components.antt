@@ -2,7 +2,7 @@
 use Rattle.calculus.specs.Answer.{answer, lacks}
 use Rattle.calculus_examples.specs.Small.{key, num, attr, relation, database, target}
 use Rattle.std.specs.Prelude.{◌≡◌, pos, true, false, List, [], ◌∷◌, codes}
-use Rattle.calculus_examples.specs.Words.{I4, Of, Wide, Add, Div, Eq, Ne, Int, Attr, QQual, Cmp, Query, operation, both, either, query, Row, Free, Db}
+use Rattle.calculus_examples.specs.Words.{I4, Of, Wide, Add, Div, Eq, Ne, Int, Attr, QQual, Cmp, Query, operation, both, either, query, Row, Unrestricted, Db}
 
 -- n (a) holds 0 and 4, m (b) holds these rows
 abbrev pub db : List Row → Db
@@ -31,9 +31,9 @@ either_way =
 
 -- what the queries give
 pub record Answers : Type 0 where
-  pub a_part_without_rows_empties_all : answer (db []) Free (quotients is_one) ≡ []
-  pub and_then_nothing_lacks : lacks (db []) Free (quotients is_one) ≡ false
-  pub with_rows_the_target_lacks : lacks (db one) Free (quotients is_one) ≡ true
-  pub only_qualifying_assignments_count : lacks (db one) Free (quotients (both is_one (Cmp Ne (Attr 0 0) (Int (pos 0))))) ≡ false
-  pub and_give_the_answer : answer (db one) Free (quotients (both is_one (Cmp Ne (Attr 0 0) (Int (pos 0))))) ≡ (num (pos 2) ∷ []) ∷ []
-  pub neither_part_alone : answer (db one) Free either_way ≡ (num (pos 4) ∷ num (pos 1) ∷ []) ∷ []
+  pub a_part_without_rows_empties_all : answer (db []) Unrestricted (quotients is_one) ≡ []
+  pub and_then_nothing_lacks : lacks (db []) Unrestricted (quotients is_one) ≡ false
+  pub with_rows_the_target_lacks : lacks (db one) Unrestricted (quotients is_one) ≡ true
+  pub only_qualifying_assignments_count : lacks (db one) Unrestricted (quotients (both is_one (Cmp Ne (Attr 0 0) (Int (pos 0))))) ≡ false
+  pub and_give_the_answer : answer (db one) Unrestricted (quotients (both is_one (Cmp Ne (Attr 0 0) (Int (pos 0))))) ≡ (num (pos 2) ∷ []) ∷ []
+  pub neither_part_alone : answer (db one) Unrestricted either_way ≡ (num (pos 4) ∷ num (pos 1) ∷ []) ∷ []

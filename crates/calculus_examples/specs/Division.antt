@@ -2,7 +2,7 @@
 use Rattle.calculus.specs.Answer.{answer, lacks}
 use Rattle.calculus_examples.specs.Small.{key, num, attr, relation, database, target}
 use Rattle.std.specs.Prelude.{◌≡◌, pos, true, [], ◌∷◌, codes}
-use Rattle.calculus_examples.specs.Words.{I4, Of, Wide, Div, Eq, QTerm, Int, Attr, True, Cmp, Query, operation, either, query, Free, Db}
+use Rattle.calculus_examples.specs.Words.{I4, Of, Wide, Div, Eq, QTerm, Int, Attr, True, Cmp, Query, operation, either, query, Unrestricted, Db}
 
 -- n (a) holds 0 and 2, m (b) holds nothing
 abbrev pub db : Db
@@ -28,6 +28,6 @@ over_nothing =
 
 -- what the three queries give
 pub record Answers : Type 0 where
-  pub zero_is_no_divisor : answer db Free halves ≡ (num (pos 2) ∷ []) ∷ []
-  pub a_target_lacks : lacks db Free quotients ≡ true
-  pub nothing_over_nothing : answer db Free over_nothing ≡ []
+  pub zero_is_no_divisor : answer db Unrestricted halves ≡ (num (pos 2) ∷ []) ∷ []
+  pub a_target_lacks : lacks db Unrestricted quotients ≡ true
+  pub nothing_over_nothing : answer db Unrestricted over_nothing ≡ []

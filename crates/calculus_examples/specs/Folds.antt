@@ -3,7 +3,7 @@ use Rattle.calculus.specs.Answer.{answer, lacks}
 use Rattle.calculus.specs.declared.operator.AggOp.{AggOp}
 use Rattle.calculus_examples.specs.Small.{num, attr, relation, database, target, fold_of}
 use Rattle.std.specs.Prelude.{◌≡◌, ℤ, pos, negsuc, true, List, [], ◌∷◌, codes}
-use Rattle.calculus_examples.specs.Words.{I1, I2, Of, Wide, Sub, Div, Eq, Lt, Gt, Count, Countu, Sum, Sumu, Avg, Min, Max, Any, QTerm, Int, Attr, QQual, True, Cmp, Query, operation, query, aggregate, Row, Free, Db}
+use Rattle.calculus_examples.specs.Words.{I1, I2, Of, Wide, Sub, Div, Eq, Lt, Gt, Count, Countu, Sum, Sumu, Avg, Min, Max, Any, QTerm, Int, Attr, QQual, True, Cmp, Query, operation, query, aggregate, Row, Unrestricted, Db}
 
 -- a row of s
 abbrev pub pair : ℤ → ℤ → Row
@@ -26,12 +26,12 @@ row_of n = (num n ∷ []) ∷ []
 
 -- what the aggregates give
 pub record Answers : Type 0 where
-  pub a_mean_is_cut_toward_zero : answer db Free (alone Avg (Attr 0 1) (Cmp Lt (Attr 0 1) (Int (pos 0)))) ≡ row_of (negsuc 2)
-  pub different_values : answer db Free (alone Countu (Attr 0 1) True) ≡ row_of (pos 3)
-  pub all_rows : answer db Free (alone Count (Attr 0 1) True) ≡ row_of (pos 4)
-  pub the_greatest_of_none : answer db Free (alone Max (Attr 0 1) (Cmp Gt (Attr 0 1) (Int (pos 9)))) ≡ row_of (pos 0)
-  pub there_is_one : answer db Free (alone Any (Attr 0 1) (Cmp Eq (Attr 0 0) (Int (pos 2)))) ≡ row_of (pos 1)
-  pub the_least : answer db Free (alone Min (Attr 0 1) True) ≡ row_of (negsuc 3)
-  pub sum_of_different : answer db Free (alone Sumu (Attr 0 1) True) ≡ row_of (negsuc 1)
-  pub a_row_without_a_value : lacks db Free (alone Sum (operation Div (Attr 0 1) (operation Sub (Attr 0 0) (Int (pos 1)))) True) ≡ true
-  pub even_a_count_lacks : lacks db Free (alone Count (operation Div (Attr 0 1) (operation Sub (Attr 0 0) (Int (pos 1)))) True) ≡ true
+  pub a_mean_is_cut_toward_zero : answer db Unrestricted (alone Avg (Attr 0 1) (Cmp Lt (Attr 0 1) (Int (pos 0)))) ≡ row_of (negsuc 2)
+  pub different_values : answer db Unrestricted (alone Countu (Attr 0 1) True) ≡ row_of (pos 3)
+  pub all_rows : answer db Unrestricted (alone Count (Attr 0 1) True) ≡ row_of (pos 4)
+  pub the_greatest_of_none : answer db Unrestricted (alone Max (Attr 0 1) (Cmp Gt (Attr 0 1) (Int (pos 9)))) ≡ row_of (pos 0)
+  pub there_is_one : answer db Unrestricted (alone Any (Attr 0 1) (Cmp Eq (Attr 0 0) (Int (pos 2)))) ≡ row_of (pos 1)
+  pub the_least : answer db Unrestricted (alone Min (Attr 0 1) True) ≡ row_of (negsuc 3)
+  pub sum_of_different : answer db Unrestricted (alone Sumu (Attr 0 1) True) ≡ row_of (negsuc 1)
+  pub a_row_without_a_value : lacks db Unrestricted (alone Sum (operation Div (Attr 0 1) (operation Sub (Attr 0 0) (Int (pos 1)))) True) ≡ true
+  pub even_a_count_lacks : lacks db Unrestricted (alone Count (operation Div (Attr 0 1) (operation Sub (Attr 0 0) (Int (pos 1)))) True) ≡ true

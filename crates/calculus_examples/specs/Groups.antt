@@ -2,7 +2,7 @@
 use Rattle.calculus.specs.Answer.{answer}
 use Rattle.calculus_examples.specs.Small.{key, num, attr, relation, database, target}
 use Rattle.std.specs.Prelude.{◌≡◌, pos, [], ◌∷◌, codes}
-use Rattle.calculus_examples.specs.Words.{I2, Of, Wide, Gt, Sum, Named, Int, Attr, True, Cmp, QAgg, Query, query, aggregate, Free, Db}
+use Rattle.calculus_examples.specs.Words.{I2, Of, Wide, Gt, Sum, Named, Int, Attr, True, Cmp, QAgg, Query, query, aggregate, Unrestricted, Db}
 
 -- g (d, s) holds 1 with 5 and 2 with 50
 abbrev pub db : Db
@@ -21,4 +21,4 @@ sums = query (key (codes "g") ∷ []) (target (codes "d") (Of I2) (Attr 0 0) ∷
 
 -- what the query gives
 pub record Answers : Type 0 where
-  pub a_group_of_no_rows_sums_to_zero : answer db Free sums ≡ (num (pos 1) ∷ num (pos 0) ∷ []) ∷ (num (pos 2) ∷ num (pos 50) ∷ []) ∷ []
+  pub a_group_of_no_rows_sums_to_zero : answer db Unrestricted sums ≡ (num (pos 1) ∷ num (pos 0) ∷ []) ∷ (num (pos 2) ∷ num (pos 50) ∷ []) ∷ []

@@ -3,7 +3,7 @@ use Rattle.calculus.specs.Replacement.{updated}
 use Rattle.calculus.specs.declared.change.DbChange.TheVariants as change
 use Rattle.calculus_examples.specs.Small.{key, num, attr, relation, database, target, into}
 use Rattle.std.specs.Prelude.{◌≡◌, ℕ, pos, [], ◌∷◌, Ok, Err, codes}
-use Rattle.calculus_examples.specs.Words.{I1, I4, Of, Wide, Mul, Lt, Int, Attr, Cmp, Update, operation, query, Free, Db}
+use Rattle.calculus_examples.specs.Words.{I1, I4, Of, Wide, Mul, Lt, Int, Attr, Cmp, Update, operation, query, Unrestricted, Db}
 
 -- p (a) holds 1 and 2
 abbrev pub db : Db
@@ -17,6 +17,6 @@ times n =
 
 -- what is made
 pub record Outcomes : Type 0 where
-  pub a_computed_number_becomes_i4 : updated db Free (times 70000)
+  pub a_computed_number_becomes_i4 : updated db Unrestricted (times 70000)
       ≡ Ok (change.Create (relation (codes "t") (attr (codes "a") (Of I1) ∷ attr (codes "b") (Of I4) ∷ []) []).info ((num (pos 1) ∷ num (pos 70000) ∷ []) ∷ []))
-  pub and_must_fit : updated db Free (times 3000000000) ≡ Err 21
+  pub and_must_fit : updated db Unrestricted (times 3000000000) ≡ Err 21

@@ -2,12 +2,12 @@
 use Rattle.calculus.specs.Answer.{answer}
 use Rattle.calculus.specs.Permission.{query_permitted, update_permitted}
 use Rattle.calculus.specs.Replacement.{updated}
-use Rattle.calculus.specs.Who.{asks}
+use Rattle.calculus.specs.Who.{as_user}
 use Rattle.calculus.specs.declared.change.DbChange.TheVariants as change
 use Rattle.calculus.specs.declared.schema.Permit.{Permit}
 use Rattle.calculus_examples.specs.Small.{key, num, text, attr, relation, target, fold_of, replace, delete, append}
 use Rattle.std.specs.Prelude.{◌≡◌, ℕ, pos, true, false, List, [], ◌∷◌, Some, Ok, codes}
-use Rattle.calculus_examples.specs.Words.{I2, C, Of, Wide, Add, Lt, Gt, Count, Int, Chars, Attr, QQual, True, Cmp, Query, Update, operation, query, aggregate, Free, Db}
+use Rattle.calculus_examples.specs.Words.{I2, C, Of, Wide, Add, Lt, Gt, Count, Int, Chars, Attr, QQual, True, Cmp, Query, Update, operation, query, aggregate, Unrestricted, Db}
 
 -- retrieve of these attributes for bob
 abbrev pub to_bob : ℕ → ℕ → List ℕ → QQual → Permit
@@ -68,19 +68,19 @@ two_attrs = append (codes "p") (0 ∷ 1 ∷ []) (query [] (target (codes "a") Wi
 
 -- what bob may do
 pub record Rights : Type 0 where
-  pub no_permit_for_both : query_permitted db (asks (codes "bob")) whole ≡ false
-  pub a_permit_for_names : query_permitted db (asks (codes "bob")) names ≡ true
-  pub names_are_read : answer db (asks (codes "bob")) names ≡ (text (codes "bo") ∷ []) ∷ []
-  pub an_aggregate_reads_what_it_names : query_permitted db (asks (codes "bob")) count_of_names ≡ false
-  pub no_permit_to_delete : update_permitted db (asks (codes "bob")) clear ≡ false
-  pub the_owner_may : update_permitted db (asks (codes "ann")) clear ≡ true
-  pub nobody_in_particular_may : update_permitted db Free clear ≡ true
+  pub no_permit_for_both : query_permitted db (as_user (codes "bob")) whole ≡ false
+  pub a_permit_for_names : query_permitted db (as_user (codes "bob")) names ≡ true
+  pub names_are_read : answer db (as_user (codes "bob")) names ≡ (text (codes "bo") ∷ []) ∷ []
+  pub an_aggregate_reads_what_it_names : query_permitted db (as_user (codes "bob")) count_of_names ≡ false
+  pub no_permit_to_delete : update_permitted db (as_user (codes "bob")) clear ≡ false
+  pub the_owner_may : update_permitted db (as_user (codes "ann")) clear ≡ true
+  pub nobody_in_particular_may : update_permitted db Unrestricted clear ≡ true
 
 -- what bob's permits let through
 pub record Cuts : Type 0 where
-  pub below_five : updated cut (asks (codes "bob")) (one 4) ≡ Ok (change.Rows (key (codes "p")) [] ((num (pos 4) ∷ text [] ∷ []) ∷ []))
-  pub not_above : updated cut (asks (codes "bob")) (one 7) ≡ Ok (change.Rows (key (codes "p")) [] [])
-  pub nobody_in_particular : updated cut Free (one 7) ≡ Ok (change.Rows (key (codes "p")) [] ((num (pos 7) ∷ text [] ∷ []) ∷ []))
-  pub only_old_rows_below_five : updated cut (asks (codes "bob")) one_more
+  pub below_five : updated cut (as_user (codes "bob")) (one 4) ≡ Ok (change.Rows (key (codes "p")) [] ((num (pos 4) ∷ text [] ∷ []) ∷ []))
+  pub not_above : updated cut (as_user (codes "bob")) (one 7) ≡ Ok (change.Rows (key (codes "p")) [] [])
+  pub nobody_in_particular : updated cut Unrestricted (one 7) ≡ Ok (change.Rows (key (codes "p")) [] ((num (pos 7) ∷ text [] ∷ []) ∷ []))
+  pub only_old_rows_below_five : updated cut (as_user (codes "bob")) one_more
       ≡ Ok (change.Rows (key (codes "p")) ((num (pos 3) ∷ text (codes "b") ∷ []) ∷ []) ((num (pos 4) ∷ text (codes "b") ∷ []) ∷ []))
-  pub both_attributes_need_a_permit : update_permitted cut (asks (codes "bob")) two_attrs ≡ false
+  pub both_attributes_need_a_permit : update_permitted cut (as_user (codes "bob")) two_attrs ≡ false

@@ -3,7 +3,7 @@ use Rattle.calculus.specs.Replacement.{updated}
 use Rattle.calculus.specs.declared.change.DbChange.TheVariants as change
 use Rattle.calculus_examples.specs.Small.{key, num, attr, relation, database, target, replace}
 use Rattle.std.specs.Prelude.{◌≡◌, pos, [], ◌∷◌, Ok, Err, codes}
-use Rattle.calculus_examples.specs.Words.{I2, Of, Wide, Add, Sub, Div, Eq, Lt, Int, Attr, True, Cmp, Update, operation, query, Free, Db}
+use Rattle.calculus_examples.specs.Words.{I2, Of, Wide, Add, Sub, Div, Eq, Lt, Int, Attr, True, Cmp, Update, operation, query, Unrestricted, Db}
 
 -- s (a) holds 1, 2 and 3, t (b) holds 5 and 6
 abbrev pub db : Db
@@ -34,7 +34,7 @@ too_great = replace (codes "s") (0 ∷ []) (query (key (codes "s") ∷ []) (targ
 
 -- what the updates make of s
 pub record Outcomes : Type 0 where
-  pub all_at_once : updated db Free one_more ≡ Ok (change.Rows (key (codes "s")) ((num (pos 1) ∷ []) ∷ []) ((num (pos 4) ∷ []) ∷ []))
-  pub two_values_for_one_row : updated db Free two_values ≡ Err 22
-  pub no_value : updated db Free by_zero ≡ Err 20
-  pub does_not_fit : updated db Free too_great ≡ Err 21
+  pub all_at_once : updated db Unrestricted one_more ≡ Ok (change.Rows (key (codes "s")) ((num (pos 1) ∷ []) ∷ []) ((num (pos 4) ∷ []) ∷ []))
+  pub two_values_for_one_row : updated db Unrestricted two_values ≡ Err 22
+  pub no_value : updated db Unrestricted by_zero ≡ Err 20
+  pub does_not_fit : updated db Unrestricted too_great ≡ Err 21

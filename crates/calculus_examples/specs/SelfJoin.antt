@@ -2,7 +2,7 @@
 use Rattle.calculus.specs.Answer.{answer}
 use Rattle.calculus_examples.specs.Small.{key, num, attr, relation, view, target}
 use Rattle.std.specs.Prelude.{◌≡◌, pos, [], ◌∷◌, codes}
-use Rattle.calculus_examples.specs.Words.{I2, Of, Eq, Lt, Attr, True, Cmp, Query, both, query, Free, Db}
+use Rattle.calculus_examples.specs.Words.{I2, Of, Eq, Lt, Attr, True, Cmp, Query, both, query, Unrestricted, Db}
 
 -- define view pair (l = x.a, r = y.b)
 abbrev pub pair : Query
@@ -38,5 +38,5 @@ all_big = query (key (codes "big") ∷ []) (target (codes "n") (Of I2) (Attr 0 0
 
 -- what the queries give
 pub record Answers : Type 0 where
-  pub both_rows_vary : answer db Free ordered ≡ (num (pos 1) ∷ num (pos 2) ∷ []) ∷ []
-  pub one_is_big : answer db Free all_big ≡ (num (pos 1) ∷ []) ∷ []
+  pub both_rows_vary : answer db Unrestricted ordered ≡ (num (pos 1) ∷ num (pos 2) ∷ []) ∷ []
+  pub one_is_big : answer db Unrestricted all_big ≡ (num (pos 1) ∷ []) ∷ []

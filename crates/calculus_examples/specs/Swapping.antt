@@ -3,7 +3,7 @@ use Rattle.calculus.specs.Replacement.{updated}
 use Rattle.calculus.specs.declared.change.DbChange.TheVariants as change
 use Rattle.calculus_examples.specs.Small.{key, num, attr, relation, database, target, replace, delete}
 use Rattle.std.specs.Prelude.{◌≡◌, ℕ, pos, List, [], ◌∷◌, Ok, codes}
-use Rattle.calculus_examples.specs.Words.{I2, Of, Wide, Eq, Int, Attr, True, Cmp, Update, query, Row, Free, Db}
+use Rattle.calculus_examples.specs.Words.{I2, Of, Wide, Eq, Int, Attr, True, Cmp, Update, query, Row, Unrestricted, Db}
 
 -- a row of p
 abbrev pub pair : ℕ → ℕ → Row
@@ -27,6 +27,6 @@ clear = delete (codes "p") (query (key (codes "p") ∷ []) [] (Cmp Eq (Attr 0 0)
 
 -- what the updates make of p
 pub record Outcomes : Type 0 where
-  pub swapped : updated (db (pair 1 2 ∷ pair 2 1 ∷ [])) Free swap ≡ Ok (change.Rows (key (codes "p")) [] [])
-  pub levelled : updated (db (pair 1 2 ∷ pair 2 1 ∷ [])) Free level ≡ Ok (change.Rows (key (codes "p")) (pair 1 2 ∷ pair 2 1 ∷ []) (pair 0 0 ∷ []))
-  pub cleared : updated (db (pair 0 0 ∷ [])) Free clear ≡ Ok (change.Rows (key (codes "p")) (pair 0 0 ∷ []) [])
+  pub swapped : updated (db (pair 1 2 ∷ pair 2 1 ∷ [])) Unrestricted swap ≡ Ok (change.Rows (key (codes "p")) [] [])
+  pub levelled : updated (db (pair 1 2 ∷ pair 2 1 ∷ [])) Unrestricted level ≡ Ok (change.Rows (key (codes "p")) (pair 1 2 ∷ pair 2 1 ∷ []) (pair 0 0 ∷ []))
+  pub cleared : updated (db (pair 0 0 ∷ [])) Unrestricted clear ≡ Ok (change.Rows (key (codes "p")) (pair 0 0 ∷ []) [])

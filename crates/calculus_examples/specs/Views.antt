@@ -4,11 +4,11 @@ use Rattle.calculus.specs.Change.{laid, IsLawful}
 use Rattle.calculus.specs.IsDatabase.{IsDatabase, vars_are_there}
 use Rattle.calculus.specs.Reads.{query_reads}
 use Rattle.calculus.specs.Sizes.{expanded_variables, level_of, query_size}
-use Rattle.calculus.specs.Who.{asks}
+use Rattle.calculus.specs.Who.{as_user}
 use Rattle.calculus.specs.declared.change.DbChange.TheVariants as change
 use Rattle.calculus_examples.specs.Small.{key, num, text, attr, relation, view, target, fold_of}
 use Rattle.std.specs.Prelude.{◌≡◌, ℕ, pos, true, false, List, [], ◌∷◌, Some, codes}
-use Rattle.calculus_examples.specs.Words.{C, Of, Wide, Eq, Count, Attr, True, Cmp, Like, Query, query, aggregate, Row, Free, Db}
+use Rattle.calculus_examples.specs.Words.{C, Of, Wide, Eq, Count, Attr, True, Cmp, Like, Query, query, aggregate, Row, Unrestricted, Db}
 use Rattle.std.specs.List.{list_all}
 
 -- a row of two texts
@@ -52,10 +52,10 @@ view_names = query (key (codes "relation") ∷ []) (target (codes "relid") (Of (
 
 -- what the views show
 pub record Shown : Type 0 where
-  pub each_name_once : answer db Free names ≡ (text (codes "ann") ∷ []) ∷ []
-  pub each_dept_once : answer db Free count_of_depts ≡ (num (pos 1) ∷ []) ∷ []
-  pub nothing_without_a_permit : answer db (asks (codes "bob")) names ≡ []
-  pub the_catalogue_has_them : answer db (asks (codes "bob")) view_names ≡ (text (codes "depts") ∷ []) ∷ (text (codes "sells") ∷ []) ∷ []
+  pub each_name_once : answer db Unrestricted names ≡ (text (codes "ann") ∷ []) ∷ []
+  pub each_dept_once : answer db Unrestricted count_of_depts ≡ (num (pos 1) ∷ []) ∷ []
+  pub nothing_without_a_permit : answer db (as_user (codes "bob")) names ≡ []
+  pub the_catalogue_has_them : answer db (as_user (codes "bob")) view_names ≡ (text (codes "depts") ∷ []) ∷ (text (codes "sells") ∷ []) ∷ []
   pub sells_has_two_variables : expanded_variables db names ≡ 2
   pub depts_has_one : expanded_variables db count_of_depts ≡ 1
   pub level_one : level_of db (key (codes "sells")) ≡ Some 1

@@ -13,5 +13,5 @@ pub use Rattle.calculus.specs.declared.request.Update.{Update}
 pub use Rattle.calculus.specs.declared.request.UpdateOp.TheVariants.{Append, Replace, Delete, Into}
 pub use Rattle.calculus.specs.Tree.{neg, abs, operation, concat, both, either, negated, query, aggregate}
 pub use Rattle.calculus.specs.Rows.{Row}
-pub use Rattle.calculus.specs.Who.{Who, Free}
+pub use Rattle.calculus.specs.Who.{Who, Unrestricted}
 pub use Rattle.calculus.specs.Database.{Db, Relation, View}

@@ -13,9 +13,9 @@ pub use databases::{
 };
 pub use queries::{
     a_view_may_stand_twice, aggregates_fold_different_rows, division_by_zero_has_no_value,
-    each_group_is_folded, parts_are_judged_together, views_show_sets,
+    each_group_is_folded, parts_are_checked_together, views_show_sets,
 };
-pub use rights::{permits_are_not_joined, permits_cut_rows};
+pub use rights::{permits_are_not_joined, permits_restrict_rows};
 pub use terms::{texts_match_patterns, values_of_terms};
 pub use updates::{
     answers_make_relations, rows_are_a_set, rules_leave_rows_out, updates_are_deferred,

@@ -17,7 +17,7 @@ pub fn division_by_zero_has_no_value()
 /// A part of a query that shares no variable with the targets decides whether there is an answer, and a
 /// target lacks a value only where the whole query qualifies.
 #[tactic(auto, using(crate::proofs::Components::answers))]
-pub fn parts_are_judged_together()
+pub fn parts_are_checked_together()
     ensures { ComponentsAnswers }
 {}
 

@@ -11,6 +11,6 @@ pub fn permits_are_not_joined()
 
 /// A new row that no permit lets through is left out, and only rows that a permit lets through are replaced.
 #[tactic(auto, using(crate::proofs::Permits::cuts))]
-pub fn permits_cut_rows()
+pub fn permits_restrict_rows()
     ensures { Cuts }
 {}

@@ -18,7 +18,7 @@ use Rattle.calculus.specs.IsDatabase.{IsDatabase}
 use Rattle.calculus.specs.Assignments.{Source, rows_used, variable_rows, choices, assigned}
 use Rattle.calculus.specs.Targets.{rows_given}
 use Rattle.calculus.specs.VariableRows.{view_rows, rows_within, rows_of}
-use Rattle.calculus_laws.proofs.Through.{told_at, rows_told, level_told, each_told}
+use Rattle.calculus_laws.proofs.Through.{said_at, rows_said, level_said, each_said}
 
 -- ---- each of what a view names has a level
 
@@ -60,11 +60,11 @@ all_map P Q f (key ∷ keys) h = (f key h.0, all_map P Q f keys h.1)
 pub kept_through : (db : Db) (who : Who) (m n : ℕ) (key : RelKey) (attrs : List ℕ) (relation : Relation) → range_at db key ≡ Some (Kept relation)
     → rows_within n db who key attrs ≡ rows_within m db who key attrs
 kept_through db who m n key attrs relation e =
-    ap (λ rows. rows attrs) (told_at (rows_told db who) n db key (Some (Kept relation)) e ∙ sym (told_at (rows_told db who) m db key (Some (Kept relation)) e))
+    ap (λ rows. rows attrs) (said_at (rows_said db who) n db key (Some (Kept relation)) e ∙ sym (said_at (rows_said db who) m db key (Some (Kept relation)) e))
 
 nothing_through : (db : Db) (who : Who) (m n : ℕ) (key : RelKey) (attrs : List ℕ) → range_at db key ≡ None → rows_within n db who key attrs ≡ rows_within m db who key attrs
 nothing_through db who m n key attrs e =
-    ap (λ rows. rows attrs) (told_at (rows_told db who) n db key None e ∙ sym (told_at (rows_told db who) m db key None e))
+    ap (λ rows. rows attrs) (said_at (rows_said db who) n db key None e ∙ sym (said_at (rows_said db who) m db key None e))
 
 -- the level is there, and so many levels are enough for the key
 abbrev IsEnough : Db → Who → ℕ → RelKey → Option ℕ → Type 0
@@ -74,15 +74,15 @@ view_through : (db : Db) (who : Who) (m : ℕ) (level : RelKey → Option ℕ) �
     → range_at db key ≡ Some (Viewed view) → IsEnough db who (suc m) key (level_above (map level (vars_of view.query)))
 view_through db who m level below key view e there zero h attrs = absurd (omega (arith, h))
 view_through db who m level below key view e there (suc n) h attrs =
-    ap (λ rows. rows attrs) (told_at (rows_told db who) (suc n) db key (Some (Viewed view)) e)
+    ap (λ rows. rows attrs) (said_at (rows_said db who) (suc n) db key (Some (Viewed view)) e)
     ∙ view_agrees (rows_within n db who) (rows_within m db who) view
     (all_map (λ k. is_some (level k) ≡ true) (Agree (rows_within n db who) (rows_within m db who)) (λ k one. below k one n (omega (arith, h))) (vars_of view.query)
     (all_there level (vars_of view.query) there))
-    ∙ sym (ap (λ rows. rows attrs) (told_at (rows_told db who) (suc m) db key (Some (Viewed view)) e))
+    ∙ sym (ap (λ rows. rows attrs) (said_at (rows_said db who) (suc m) db key (Some (Viewed view)) e))
 
 pub enough : (db : Db) (who : Who) (m : ℕ) (key : RelKey) → IsEnough db who m key (level_within m db key)
 enough db who =
-    each_told level_told db (IsEnough db who) (record {
+    each_said level_said db (IsEnough db who) (record {
       nothing = λ m f key e there. cc there;
       kept = λ m f key relation e there n h attrs. kept_through db who m n key attrs relation e;
       view_past = λ key view e there. cc there;

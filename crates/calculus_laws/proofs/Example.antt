@@ -17,11 +17,11 @@ use Rattle.calculus.specs.declared.schema.Spec.TheVariants as spec
 use Rattle.calculus.specs.declared.schema.Attr.{Attr as Attribute}
 use Rattle.calculus.specs.Tree.{operation, both, query}
 use Rattle.calculus.specs.Keys.{key_of}
-use Rattle.calculus.specs.Who.{Free}
+use Rattle.calculus.specs.Who.{Unrestricted}
 use Rattle.calculus.specs.Database.{Db, Relation, View}
 use Rattle.calculus.specs.Stored.{range_at}
 use Rattle.calculus.specs.QueryParts.{term_aggregates, qual_aggregates}
-use Rattle.calculus.specs.Constant.{constant_text, marks}
+use Rattle.calculus.specs.Constant.{constant_text, unescaped}
 use Rattle.calculus.specs.Rights.{may}
 use Rattle.calculus.specs.Rows.{Row}
 use Rattle.calculus.specs.Used.{used_in_query}
@@ -91,8 +91,8 @@ is_over_view : IsOverView db view over_view
 unfolding range_at term_aggregates qual_aggregates
 is_over_view = record { key = toys; only = refl; ranges = refl; is_used = refl; is_plain = refl; view_is_plain = refl; over_no_view = refl }
 
-one_row : answer db Free over_view ≡ (text (codes "bob") ∷ []) ∷ []
-unfolding answer rows_given assigned rows_of range_at may constant_text marks val holds attribute_value operated_values compared_values
+one_row : answer db Unrestricted over_view ≡ (text (codes "bob") ∷ []) ∷ []
+unfolding answer rows_given assigned rows_of range_at may constant_text unescaped val holds attribute_value operated_values compared_values
 one_row = refl
 
 -- bob's row of the view, whose doubled pay is 40
@@ -100,12 +100,12 @@ abbrev of_bob : Row
 of_bob = text (codes "bob") ∷ value.Int (pos 40) ∷ text (codes "a*") ∷ []
 
 -- it is one of the two rows of the view
-is_row : IsRowOf (rows_of db Free) toys (used_in_query 0 over_view) of_bob
-unfolding rows_given assigned rows_of range_at may constant_text marks val holds attribute_value operated_values compared_values
+is_row : IsRowOf (rows_of db Unrestricted) toys (used_in_query 0 over_view) of_bob
+unfolding rows_given assigned rows_of range_at may constant_text unescaped val holds attribute_value operated_values compared_values
 is_row = (1, omega arith, refl)
 
 -- so it makes an assignment
-is_assignment : IsAssignment (rows_of db Free) over_view (of_bob ∷ [])
+is_assignment : IsAssignment (rows_of db Unrestricted) over_view (of_bob ∷ [])
 is_assignment = record { one_for_each = refl; is_row_of = each }
   where
     key_is : (a b : RelKey) → Some a ≡ Some b → a ≡ b
@@ -119,23 +119,23 @@ is_assignment = record { one_for_each = refl; is_row_of = each }
     nowhere (suc v) key h = cc h
 
     each : (v : ℕ) (key : RelKey) (row : Row) → slice_get (toys ∷ []) v ≡ Some key → slice_get (of_bob ∷ []) v ≡ Some row
-        → IsRowOf (rows_of db Free) key (used_in_query v over_view) row
+        → IsRowOf (rows_of db Unrestricted) key (used_in_query v over_view) row
     each zero key row k r =
-        subst (λ key. IsRowOf (rows_of db Free) key (used_in_query 0 over_view) row) (key_is toys key k)
-        (subst (IsRowOf (rows_of db Free) toys (used_in_query 0 over_view)) (row_is of_bob row r) is_row)
+        subst (λ key. IsRowOf (rows_of db Unrestricted) key (used_in_query 0 over_view) row) (key_is toys key k)
+        (subst (IsRowOf (rows_of db Unrestricted) toys (used_in_query 0 over_view)) (row_is of_bob row r) is_row)
     each (suc v) key row k r = absurd (nowhere v key k)
 
 -- in which the qualification holds and the target is his name
-asked_for : IsAskedFor db Free over_view (text (codes "bob") ∷ [])
-unfolding constant_text marks val holds attribute_value operated_values compared_values
+asked_for : IsAskedFor db Unrestricted over_view (text (codes "bob") ∷ [])
+unfolding constant_text unescaped val holds attribute_value operated_values compared_values
 asked_for = (of_bob ∷ [], is_assignment, refl, refl)
 
 -- ann's doubled pay is 20, and she isn't asked for
-not_asked_for : ¬ (IsAskedFor db Free over_view (text (codes "ann") ∷ []))
-unfolding answer rows_given assigned rows_of range_at may constant_text marks val holds attribute_value operated_values compared_values
-not_asked_for h = let no : false ≡ true = has-Contains (answer db Free over_view) (text (codes "ann") ∷ []) ((answered db Free over_view (text (codes "ann") ∷ [])).1 h) in cc no
+not_asked_for : ¬ (IsAskedFor db Unrestricted over_view (text (codes "ann") ∷ []))
+unfolding answer rows_given assigned rows_of range_at may constant_text unescaped val holds attribute_value operated_values compared_values
+not_asked_for h = let no : false ≡ true = has-Contains (answer db Unrestricted over_view) (text (codes "ann") ∷ []) ((answered db Unrestricted over_view (text (codes "ann") ∷ [])).1 h) in cc no
 
 -- the view has the rows that its query answers
-view_rows : rows_of db Free toys (0 ∷ []) ≡ answer db Free view.query
-unfolding answer rows_given assigned rows_of range_at may constant_text marks val holds attribute_value operated_values compared_values
+view_rows : rows_of db Unrestricted toys (0 ∷ []) ≡ answer db Unrestricted view.query
+unfolding answer rows_given assigned rows_of range_at may constant_text unescaped val holds attribute_value operated_values compared_values
 view_rows = refl

@@ -20,11 +20,11 @@ use Rattle.calculus.specs.VariableRows.{range_rows, view_rows, rows_within, rows
 use Rattle.calculus.specs.Aggregate.{aggregates}
 use Rattle.calculus.specs.Answer.{answer, lacks}
 use Rattle.calculus.proofs.Sets.{same_set, Ascends-set_of}
-use Rattle.calculus_laws.specs.Expansion.{put_in_qual, have_values, expanded, IsOverView}
+use Rattle.calculus_laws.specs.Expansion.{substituted_qual, have_values, expanded, IsOverView}
 use Rattle.calculus_laws.proofs.Members.{In, Chosen, choices-Chosen, Chosen-choices, has-In, In-has}
 use Rattle.calculus_laws.proofs.Given.{IsOutcome, given-is, is-given, lack-is, is-lack}
 use Rattle.calculus_laws.proofs.Plain.{none_left, none_right, in_targets, given_plain}
-use Rattle.calculus_laws.proofs.PutIn.{holds_put_in, targets_put_in, values-have, have-values}
+use Rattle.calculus_laws.proofs.Substituted.{holds_substituted, targets_substituted, values-have, have-values}
 use Rattle.calculus_laws.proofs.UsedIn.{targets_of-expanded}
 use Rattle.calculus_laws.proofs.SameRows.{equal_by, both_true, same_assigned}
 
@@ -75,20 +75,20 @@ pub says_the_same : (aggs : Aggs) (view q : Query) (e : Env) (row : Row) → que
     → (holds aggs (qual_of q) (row ∷ []) ≡ true → holds aggs (qual_of (expanded view q)) e ≡ true)
     × (target_values aggs (targets_of (expanded view q)) e ≡ target_values aggs (targets_of q) (row ∷ []))
 says_the_same aggs view q e row plain own values = (
-  λ h. joined aggs (put_in_qual (targets_of view) (qual_of q)) (qual_of view) (have_values (targets_of view)) e
-      (holds_put_in aggs (targets_of view) e row (qual_of q) values (none_right (in_targets (targets_of q)) (qual_aggregates (qual_of q)) plain) ∙ h)
+  λ h. joined aggs (substituted_qual (targets_of view) (qual_of q)) (qual_of view) (have_values (targets_of view)) e
+      (holds_substituted aggs (targets_of view) e row (qual_of q) values (none_right (in_targets (targets_of q)) (qual_aggregates (qual_of q)) plain) ∙ h)
       own (values-have aggs (targets_of view) e row values),
   ap (λ ts. target_values aggs ts e) (targets_of-expanded view q)
-      ∙ targets_put_in aggs (targets_of view) e row (targets_of q) values (none_left (in_targets (targets_of q)) (qual_aggregates (qual_of q)) plain),
+      ∙ targets_substituted aggs (targets_of view) e row (targets_of q) values (none_left (in_targets (targets_of q)) (qual_aggregates (qual_of q)) plain),
 )
 
 -- where the expanded query holds, the view's text gives a row, and the query holds of it
 gives_row : (aggs : Aggs) (view q : Query) (e : Env) → query_aggregates q ≡ [] → holds aggs (qual_of (expanded view q)) e ≡ true
     → (row : Row) × (holds aggs (qual_of view) e ≡ true) × (target_values aggs (targets_of view) e ≡ Some row) × (holds aggs (qual_of q) (row ∷ []) ≡ true)
 gives_row aggs view q e plain h =
-    let (put, own, needed) = parts aggs (put_in_qual (targets_of view) (qual_of q)) (qual_of view) (have_values (targets_of view)) e h in
+    let (put, own, needed) = parts aggs (substituted_qual (targets_of view) (qual_of q)) (qual_of view) (have_values (targets_of view)) e h in
     let (row, values) = have-values aggs (targets_of view) e needed in
-    (row, own, values, sym (holds_put_in aggs (targets_of view) e row (qual_of q) values (none_right (in_targets (targets_of q)) (qual_aggregates (qual_of q)) plain)) ∙ put)
+    (row, own, values, sym (holds_substituted aggs (targets_of view) e row (qual_of q) values (none_right (in_targets (targets_of q)) (qual_aggregates (qual_of q)) plain)) ∙ put)
 
 -- the query, and the assignments of the view's text, of which the query's variable has the rows
 record IsOver (aggs : Aggs) (source : Source) (view q : Query) (es : List Env) : Type 0 where

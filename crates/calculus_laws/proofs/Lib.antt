@@ -12,7 +12,7 @@ pub mod Members
 pub mod OneVariable
 pub mod OwnLevel
 pub mod Plain
-pub mod PutIn
+pub mod Substituted
 pub mod SameAnswer
 pub mod SameRows
 pub mod SameSchema

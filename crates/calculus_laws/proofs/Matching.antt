@@ -27,32 +27,32 @@ rest_there f [] [] h = h
 rest_there f [] (x ∷ xs) h = ap (λ u. u || some_rest f xs) h
 rest_there f (y ∷ ys) rest h = or_right (f (y ∷ (ys ++ rest))) (some_rest f (ys ++ rest)) (rest_there f ys rest h)
 
-tells : (is : List Item) (xs : List ℕ) → fits_items is xs ≡ true → Fits is xs
+sound : (is : List Item) (xs : List ℕ) → fits_items is xs ≡ true → Fits is xs
 unfolding fits_items
-tells [] [] h = refl
-tells [] (x ∷ xs) h = cc h
-tells (Byte b ∷ is) [] h = absurd (cc h)
-tells (Byte b ∷ is) (x ∷ xs) h =
+sound [] [] h = refl
+sound [] (x ∷ xs) h = cc h
+sound (Byte b ∷ is) [] h = absurd (cc h)
+sound (Byte b ∷ is) (x ∷ xs) h =
     let p = both_true (x == b) (fits_items is xs) h in
     let e : x ≡ b = search (rules, p.0) in
-    (xs, ap (λ y. y ∷ xs) e, tells is xs p.1)
-tells (AnyByte ∷ is) [] h = absurd (cc h)
-tells (AnyByte ∷ is) (x ∷ xs) h = (x, xs, refl, tells is xs h)
-tells (AnyText ∷ is) xs h = let s = split_there (fits_items is) xs h in (s.0, s.1, s.2, tells is s.1 s.3)
-tells (Class rs ∷ is) [] h = absurd (cc h)
-tells (Class rs ∷ is) (x ∷ xs) h = let p = both_true (in_class rs x) (fits_items is xs) h in (x, xs, refl, p.0, tells is xs p.1)
+    (xs, ap (λ y. y ∷ xs) e, sound is xs p.1)
+sound (AnyByte ∷ is) [] h = absurd (cc h)
+sound (AnyByte ∷ is) (x ∷ xs) h = (x, xs, refl, sound is xs h)
+sound (AnyText ∷ is) xs h = let s = split_there (fits_items is) xs h in (s.0, s.1, s.2, sound is s.1 s.3)
+sound (Class rs ∷ is) [] h = absurd (cc h)
+sound (Class rs ∷ is) (x ∷ xs) h = let p = both_true (in_class rs x) (fits_items is xs) h in (x, xs, refl, p.0, sound is xs p.1)
 
-told : (is : List Item) (xs : List ℕ) → Fits is xs → fits_items is xs ≡ true
+complete : (is : List Item) (xs : List ℕ) → Fits is xs → fits_items is xs ≡ true
 unfolding fits_items
-told [] xs h = ap (fits_items []) h
-told (Byte b ∷ is) xs h =
+complete [] xs h = ap (fits_items []) h
+complete (Byte b ∷ is) xs h =
     let e : (b == b) ≡ true = search rules in
-    ap (fits_items (Byte b ∷ is)) h.1 ∙ ap (λ u. u && fits_items is h.0) e ∙ told is h.0 h.2
-told (AnyByte ∷ is) xs h = ap (fits_items (AnyByte ∷ is)) h.2 ∙ told is h.1 h.3
-told (AnyText ∷ is) xs h = ap (fits_items (AnyText ∷ is)) h.2 ∙ rest_there (fits_items is) h.0 h.1 (told is h.1 h.3)
-told (Class rs ∷ is) xs h =
-    ap (fits_items (Class rs ∷ is)) h.2 ∙ ap (λ u. u && fits_items is h.1) h.3 ∙ told is h.1 h.4
+    ap (fits_items (Byte b ∷ is)) h.1 ∙ ap (λ u. u && fits_items is h.0) e ∙ complete is h.0 h.2
+complete (AnyByte ∷ is) xs h = ap (fits_items (AnyByte ∷ is)) h.2 ∙ complete is h.1 h.3
+complete (AnyText ∷ is) xs h = ap (fits_items (AnyText ∷ is)) h.2 ∙ rest_there (fits_items is) h.0 h.1 (complete is h.1 h.3)
+complete (Class rs ∷ is) xs h =
+    ap (fits_items (Class rs ∷ is)) h.2 ∙ ap (λ u. u && fits_items is h.1) h.3 ∙ complete is h.1 h.4
 
 pub test_is_relation : (pattern text : List ℕ) → IsTrue (matches pattern text) ↔ Matches pattern text
 unfolding matches Matches
-test_is_relation pattern text = (tells (items pattern) text, told (items pattern) text)
+test_is_relation pattern text = (sound (items pattern) text, complete (items pattern) text)

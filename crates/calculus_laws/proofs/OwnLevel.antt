@@ -11,7 +11,7 @@ use Rattle.calculus.specs.QueryParts.{vars_of}
 use Rattle.calculus.specs.Sizes.{greater_level, greatest_of, level_above, level_within, level_of}
 use Rattle.calculus.specs.VariableRows.{rows_within, rows_of}
 use Rattle.calculus_laws.proofs.Enough.{all_there, enough, more_levels, all_map}
-use Rattle.calculus_laws.proofs.Through.{told_at, level_told, each_told}
+use Rattle.calculus_laws.proofs.Through.{said_at, level_said, each_said}
 
 -- ---- where there is a level, there is one through more levels
 
@@ -29,20 +29,20 @@ abbrev StaysThere : Db → ℕ → RelKey → Option ℕ → Type 0
 StaysThere db m key level = is_some level ≡ true → (n : ℕ) → m ≤ n → is_some (level_within n db key) ≡ true
 
 kept_there : (db : Db) (key : RelKey) (relation : Relation) → range_at db key ≡ Some (Kept relation) → (n : ℕ) → is_some (level_within n db key) ≡ true
-kept_there db key relation e n = ap is_some (told_at level_told n db key (Some (Kept relation)) e)
+kept_there db key relation e n = ap is_some (said_at level_said n db key (Some (Kept relation)) e)
 
 view_there : (db : Db) (m : ℕ) (level : RelKey → Option ℕ) → ((key : RelKey) → StaysThere db m key (level key)) → (key : RelKey) (view : View)
     → range_at db key ≡ Some (Viewed view) → StaysThere db (suc m) key (level_above (map level (vars_of view.query)))
 view_there db m level below key view e there zero h = absurd (omega (arith, h))
 view_there db m level below key view e there (suc n) h =
-    ap is_some (told_at level_told (suc n) db key (Some (Viewed view)) e)
+    ap is_some (said_at level_said (suc n) db key (Some (Viewed view)) e)
     ∙ there_above (level_within n db) (vars_of view.query)
     (all_map (λ k. is_some (level k) ≡ true) (λ k. is_some (level_within n db k) ≡ true) (λ k one. below k one n (omega (arith, h))) (vars_of view.query)
     (all_there level (vars_of view.query) there))
 
 more_there : (db : Db) (m : ℕ) (key : RelKey) → StaysThere db m key (level_within m db key)
 more_there db =
-    each_told level_told db (StaysThere db) (record {
+    each_said level_said db (StaysThere db) (record {
       nothing = λ m f key e there. cc there;
       kept = λ m f key relation e there n h. kept_there db key relation e n;
       view_past = λ key view e there. cc there;
@@ -94,12 +94,12 @@ view_is_own : (db : Db) (level : RelKey → Option ℕ) → ((key : RelKey) → 
     → IsOwn db key (level_above (map level (vars_of view.query)))
 view_is_own db level below key view e zero h = let top = one_less (greatest_of (map level (vars_of view.query))) 0 h in absurd (omega (arith, top.1))
 view_is_own db level below key view e (suc m) h =
-    ap is_some (told_at level_told (suc m) db key (Some (Viewed view)) e)
+    ap is_some (said_at level_said (suc m) db key (Some (Viewed view)) e)
     ∙ view_own level (level_within m db) (vars_of view.query) m h (λ k i low at. more_there db i k (below k i at) m low)
 
 own : (db : Db) (n : ℕ) (key : RelKey) → IsOwn db key (level_within n db key)
 own db =
-    each_told level_told db (λ n. IsOwn db) (record {
+    each_said level_said db (λ n. IsOwn db) (record {
       nothing = λ n f key e m h. cc h;
       kept = λ n f key relation e m h. kept_there db key relation e m;
       view_past = λ key view e m h. cc h;

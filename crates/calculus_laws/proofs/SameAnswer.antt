@@ -30,7 +30,7 @@ use Rattle.calculus_laws.proofs.Asked.{In-Contains}
 use Rattle.calculus_laws.proofs.Members.{In, In-filter, In-append_left, In-append_right}
 use Rattle.calculus_laws.proofs.Plain.{AgreeOn, given_agree, lacks_agree}
 use Rattle.calculus_laws.proofs.SameSchema.{nothing_alike, kept_alike, view_alike, ranges_alike, may_same, none_same}
-use Rattle.calculus_laws.proofs.Through.{told_at, rows_told, reads_told, told, each_told}
+use Rattle.calculus_laws.proofs.Through.{said_at, rows_said, reads_said, said, each_said}
 use Rattle.calculus_laws.proofs.WhatIsRead.{In-flat_map}
 
 -- ---- assignments, where the used variables have the same rows
@@ -71,21 +71,21 @@ module _ (db other : Db) (schema : schema_of db ≡ schema_of other) (who : Who)
   nothing_same : (n : ℕ) (key : RelKey) → range_at db key ≡ None → SameRows n key []
   nothing_same n key e same attrs =
       let there = nothing_alike (range_at db key) (range_at other key) (ranges_alike db other schema key) e in
-      ap (λ rows. rows attrs) (told_at (rows_told db who) n db key None e) ∙ sym (ap (λ rows. rows attrs) (told_at (rows_told other who) n other key None there))
+      ap (λ rows. rows attrs) (said_at (rows_said db who) n db key None e) ∙ sym (ap (λ rows. rows attrs) (said_at (rows_said other who) n other key None there))
 
   kept_same : (n : ℕ) (key : RelKey) (relation : Relation) → range_at db key ≡ Some (Kept relation) → SameRows n key (key ∷ [])
   kept_same n key relation e same attrs =
       let there = kept_alike (range_at db key) (range_at other key) relation (ranges_alike db other schema key) e in
       let rows : relation.rows ≡ there.0.rows = sym (ap kept_rows e) ∙ same key (inl refl) ∙ ap kept_rows there.1 in
-      ap (λ rows. rows attrs) (told_at (rows_told db who) n db key (Some (Kept relation)) e)
+      ap (λ rows. rows attrs) (said_at (rows_said db who) n db key (Some (Kept relation)) e)
       ∙ (λ i. filter (λ row. may_same db other schema who Retrieve attrs key row i) (rows i))
-      ∙ sym (ap (λ rows. rows attrs) (told_at (rows_told other who) n other key (Some (Kept there.0)) there.1))
+      ∙ sym (ap (λ rows. rows attrs) (said_at (rows_said other who) n other key (Some (Kept there.0)) there.1))
 
   past_same : (key : RelKey) (view : View) → range_at db key ≡ Some (Viewed view) → SameRows zero key []
   past_same key view e same attrs =
       let there = view_alike (range_at db key) (range_at other key) view (ranges_alike db other schema key) e in
-      ap (λ rows. rows attrs) (told_at (rows_told db who) zero db key (Some (Viewed view)) e)
-      ∙ sym (ap (λ rows. rows attrs) (told_at (rows_told other who) zero other key (Some (Viewed view)) there))
+      ap (λ rows. rows attrs) (said_at (rows_said db who) zero db key (Some (Viewed view)) e)
+      ∙ sym (ap (λ rows. rows attrs) (said_at (rows_said other who) zero other key (Some (Viewed view)) there))
 
   -- the used variables of a query, where it is so of what each key reads
   used_same : (reads : RelKey → List RelKey) (source others : Source) → ((key : RelKey) → SameUnder (reads key) → (attrs : List ℕ) → source key attrs ≡ others key attrs)
@@ -101,13 +101,13 @@ module _ (db other : Db) (schema : schema_of db ≡ schema_of other) (who : Who)
       → SameRows (suc n) key (vars_read reads view.query)
   view_same n reads below key view e same attrs =
       let there = view_alike (range_at db key) (range_at other key) view (ranges_alike db other schema key) e in
-      ap (λ rows. rows attrs) (told_at (rows_told db who) (suc n) db key (Some (Viewed view)) e)
+      ap (λ rows. rows attrs) (said_at (rows_said db who) (suc n) db key (Some (Viewed view)) e)
       ∙ ap (rows_given no_aggs view.query) (query_same reads (rows_within n db who) (rows_within n other who) below view.query same)
-      ∙ sym (ap (λ rows. rows attrs) (told_at (rows_told other who) (suc n) other key (Some (Viewed view)) there))
+      ∙ sym (ap (λ rows. rows attrs) (said_at (rows_said other who) (suc n) other key (Some (Viewed view)) there))
 
-  within_same : (n : ℕ) (key : RelKey) → SameRows n key (told reads_told n db key)
+  within_same : (n : ℕ) (key : RelKey) → SameRows n key (said reads_said n db key)
   within_same =
-      each_told reads_told db SameRows (record {
+      each_said reads_said db SameRows (record {
         nothing = λ n f key e. nothing_same n key e;
         kept = λ n f key relation e. kept_same n key relation e;
         view_past = past_same;
@@ -141,23 +141,23 @@ module _ (db other : Db) (schema : schema_of db ≡ schema_of other) (who : Who)
 
   -- ---- queries
 
-  told_under : (keys : List RelKey) → HaveSameRows db other keys → SameUnder keys
-  told_under keys same key inside = same key (In-Contains keys key inside)
+  said_under : (keys : List RelKey) → HaveSameRows db other keys → SameUnder keys
+  said_under keys same key inside = same key (In-Contains keys key inside)
 
   pub variables_agree : (q : Query) → HaveSameRows db other (query_reads db q) → AgreeUsed (rows_of db who) (rows_of other who) q
   unfolding query_reads
   variables_agree q same =
       used_same (reads_of db) (rows_of db who) (rows_of other who) rows_same q
-      (λ key read. told_under (query_reads db q) same key (In-append_left (vars_read (reads_of db) q) (flat_map (λ g. source_reads db g.source) (query_aggregates q)) key read))
+      (λ key read. said_under (query_reads db q) same key (In-append_left (vars_read (reads_of db) q) (flat_map (λ g. source_reads db g.source) (query_aggregates q)) key read))
 
   pub aggregates_agree : (q : Query) → HaveSameRows db other (query_reads db q) → AgreeOn (aggregates db who) (aggregates other who) (query_aggregates q)
   unfolding query_reads
   aggregates_agree q same =
       aggregates_same (query_aggregates q)
-      (λ key read. told_under (query_reads db q) same key (In-append_right (vars_read (reads_of db) q) (flat_map (λ g. source_reads db g.source) (query_aggregates q)) key read))
+      (λ key read. said_under (query_reads db q) same key (In-append_right (vars_read (reads_of db) q) (flat_map (λ g. source_reads db g.source) (query_aggregates q)) key read))
 
   pub rows_are_same : (key : RelKey) → HaveSameRows db other (reads_of db key) → (attrs : List ℕ) → rows_of db who key attrs ≡ rows_of other who key attrs
-  rows_are_same key same attrs = rows_same key (told_under (reads_of db key) same) attrs
+  rows_are_same key same attrs = rows_same key (said_under (reads_of db key) same) attrs
 
   pub answers_are_same : (q : Query) → HaveSameRows db other (query_reads db q) → answer db who q ≡ answer other who q
   unfolding answer

@@ -7,7 +7,7 @@ use Rattle.calculus.specs.Rows.{Row}
 use Rattle.calculus.specs.Lists.{has_number}
 use Rattle.calculus.specs.Term.{no_aggs, holds}
 use Rattle.calculus.specs.Limits.{greatest_level}
-use Rattle.calculus.specs.Who.{Who, Free, Asks}
+use Rattle.calculus.specs.Who.{Who, Unrestricted, AsUser}
 use Rattle.calculus.specs.Database.{Db, View, permits_on}
 use Rattle.calculus.specs.Stored.{Range, Kept, Viewed, range_at}
 use Rattle.calculus.specs.Rights.{Right, Retrieve, has_right, is_for, has_attrs, covers, needs_none, may}
@@ -16,7 +16,7 @@ use Rattle.calculus.specs.Used.{used_in_query}
 use Rattle.calculus.specs.Assignments.{Source, choices, rows_used, variable_rows, assigned}
 use Rattle.calculus.specs.VariableRows.{range_rows, rows_within, rows_of}
 use Rattle.calculus_laws.specs.Expansion.{expanded, is_no_view}
-use Rattle.calculus_laws.proofs.Through.{told_view, told_at, rows_told}
+use Rattle.calculus_laws.proofs.Through.{said_view, said_at, rows_said}
 use Rattle.calculus_laws.proofs.Members.{In, Within}
 use Rattle.calculus_laws.proofs.UsedIn.{expanded_within, within_expanded}
 
@@ -48,8 +48,8 @@ same_attrs (a ∷ more) xs ys to from =
 same_may : (db : Db) (who : Who) (right : Right) (key : RelKey) (xs ys : List ℕ) → Within xs ys → Within ys xs → (row : Row)
     → may db who right xs key row ≡ may db who right ys key row
 unfolding may covers
-same_may db Free right key xs ys to from row = refl
-same_may db (Asks asker) right key xs ys to from row = λ i. needs_none db asker right key
+same_may db Unrestricted right key xs ys to from row = refl
+same_may db (AsUser asker) right key xs ys to from row = λ i. needs_none db asker right key
     || list_any (λ p. (is_for p.user asker.user && (has_right p.ops right && same_attrs p.attrs xs ys to from i)) && holds no_aggs p.qual (row ∷ [])) (permits_on db key)
 
 -- ---- the rows of a variable that ranges over no view
@@ -65,13 +65,13 @@ same_range of_view other db who key xs ys to from (Some (Viewed view)) h = cc h
 same_kept : (m n : ℕ) (db : Db) (who : Who) (key : RelKey) (xs ys : List ℕ) → Within xs ys → Within ys xs → is_no_view (range_at db key) ≡ true
     → rows_within m db who key xs ≡ rows_within n db who key ys
 same_kept m n db who key xs ys to from h =
-    told_same m xs ∙ same_range (through_levels m xs) (through_levels n ys) db who key xs ys to from (range_at db key) h ∙ sym (told_same n ys)
+    said_same m xs ∙ same_range (through_levels m xs) (through_levels n ys) db who key xs ys to from (range_at db key) h ∙ sym (said_same n ys)
   where
     through_levels : ℕ → List ℕ → View → List Row
-    through_levels n attrs view = told_view (rows_told db who) n db view attrs
+    through_levels n attrs view = said_view (rows_said db who) n db view attrs
 
-    told_same : (n : ℕ) (attrs : List ℕ) → rows_within n db who key attrs ≡ range_rows (through_levels n attrs) db who key attrs (range_at db key)
-    told_same n attrs = ap (λ rows. rows attrs) (told_at (rows_told db who) n db key (range_at db key) refl)
+    said_same : (n : ℕ) (attrs : List ℕ) → rows_within n db who key attrs ≡ range_rows (through_levels n attrs) db who key attrs (range_at db key)
+    said_same n attrs = ap (λ rows. rows attrs) (said_at (rows_said db who) n db key (range_at db key) refl)
 
 -- ---- assignments
 

@@ -7,7 +7,7 @@ use Rattle.calculus.specs.declared.schema.RelInfo.{RelInfo}
 use Rattle.calculus.specs.Tree.{rows_of_query}
 use Rattle.calculus.specs.Rows.{Row, set_of}
 use Rattle.calculus.specs.Keys.{same_key}
-use Rattle.calculus.specs.Who.{Who, Free, Asks}
+use Rattle.calculus.specs.Who.{Who, Unrestricted, AsUser}
 use Rattle.calculus.specs.Database.{Db, Relation, View, entries, relation_at, view_at}
 use Rattle.calculus.specs.Catalogue.{relation_key, attribute_key, relation_info, attribute_info, relation_row, attribute_rows, catalogue_at}
 use Rattle.calculus.specs.Stored.{Range, Kept, Viewed, range_at, range_info, info_at, attrs_in, kinds_at}
@@ -67,8 +67,8 @@ views_bare db = refl
 
 may_bare : (db : Db) (who : Who) (right : Right) (attrs : List ℕ) (key : RelKey) (row : Row) → may (schema_of db) who right attrs key row ≡ may db who right attrs key row
 unfolding schema_of may
-may_bare db Free right attrs key row = refl
-may_bare db (Asks asker) right attrs key row = refl
+may_bare db Unrestricted right attrs key row = refl
+may_bare db (AsUser asker) right attrs key row = refl
 
 -- ---- what two ranges have in common
 

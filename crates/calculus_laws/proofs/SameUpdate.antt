@@ -13,7 +13,7 @@ use Rattle.calculus.specs.declared.request.Update.{Update}
 use Rattle.calculus.specs.declared.request.UpdateOp.TheVariants.{Append, Replace, Delete, Into}
 use Rattle.calculus.specs.Rows.{Row}
 use Rattle.calculus.specs.Limits.{most_rows}
-use Rattle.calculus.specs.Who.{Who, Free, Asks}
+use Rattle.calculus.specs.Who.{Who, Unrestricted, AsUser}
 use Rattle.calculus.specs.Database.{Db}
 use Rattle.calculus.specs.Stored.{rows_at}
 use Rattle.calculus.specs.Rights.{Right, Retrieve, may}
@@ -23,8 +23,8 @@ use Rattle.calculus.specs.Assignments.{choices, variable_rows, changed, changed_
 use Rattle.calculus.specs.Targets.{target_values}
 use Rattle.calculus.specs.VariableRows.{rows_of}
 use Rattle.calculus.specs.Aggregate.{aggregates}
-use Rattle.calculus.specs.Pairs.{blank, with_values, put_pair, pair_of, pair_stands, qualifying_updates, pairs}
-use Rattle.calculus.specs.Replacement.{made_attr, wanted_kinds, all_fit, contended, after, first_cause, made_info, rows_change, updated}
+use Rattle.calculus.specs.Pairs.{blank, with_values, put_pair, pair_of, pair_allowed, qualifying_updates, pairs}
+use Rattle.calculus.specs.Replacement.{made_attr, wanted_kinds, all_fit, contended, after, first_refusal, made_info, rows_change, updated}
 use Rattle.calculus.specs.Reads.{query_reads, update_reads}
 use Rattle.calculus.specs.Schema.{schema_of}
 use Rattle.calculus_laws.specs.Reading.{HaveSameRows, IsOverItsRelation}
@@ -41,10 +41,10 @@ numbered start [] p h = absurd h
 numbered {X} start (x ∷ xs) p (inl same) = (0, ap (λ (p : ℕ × X). p.0) (sym same) ∙ omega arith, ap (λ p. Some p.1) same)
 numbered start (x ∷ xs) p (inr h) = let (v, place, there) = numbered (start + 1) xs p h in (suc v, omega (arith, place), there)
 
-stands_bare : (db : Db) (who : Who) (u : Update) → pair_stands (schema_of db) who u ≡ pair_stands db who u
+stands_bare : (db : Db) (who : Who) (u : Update) → pair_allowed (schema_of db) who u ≡ pair_allowed db who u
 unfolding schema_of may
-stands_bare db Free u = refl
-stands_bare db (Asks asker) u = refl
+stands_bare db Unrestricted u = refl
+stands_bare db (AsUser asker) u = refl
 
 module _ (db other : Db) (schema : schema_of db ≡ schema_of other) (who : Who) (u : Update) (over : IsOverItsRelation u) (under : HaveSameRows db other (update_reads db u)) where
   target_rows : rows_at db u.rel ≡ rows_at other u.rel
@@ -138,8 +138,8 @@ module _ (db other : Db) (schema : schema_of db ≡ schema_of other) (who : Who)
   pair_same : pair_of db u ≡ pair_of other u
   pair_same = ap pair_for (kinds_same db other schema u.rel)
 
-  stands_same : pair_stands db who u ≡ pair_stands other who u
-  stands_same = sym (stands_bare db who u) ∙ ap (λ d. pair_stands d who u) schema ∙ stands_bare other who u
+  stands_same : pair_allowed db who u ≡ pair_allowed other who u
+  stands_same = sym (stands_bare db who u) ∙ ap (λ d. pair_allowed d who u) schema ∙ stands_bare other who u
 
   pairs_same : pairs db who u ≡ pairs other who u
   unfolding pairs
@@ -161,7 +161,7 @@ module _ (db other : Db) (schema : schema_of db ≡ schema_of other) (who : Who)
 
   abbrev outcome : (Changing → Option Row) → List (Option Kind) → List Row → List Changing → List Pair → Result DbChange ℕ
   outcome values wanted rows cs ps =
-      elim (first_cause (
+      elim (first_refusal (
       (20, list_any (λ c. is_none (values c)) cs)
       ∷ (21, not (list_all (λ c. all_fit wanted (values c)) cs))
       ∷ (22, contended ps) ∷ (29, nat_lt most_rows (length (after rows ps))) ∷ []

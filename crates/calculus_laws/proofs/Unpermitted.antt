@@ -8,7 +8,7 @@ use Rattle.calculus.specs.Rows.{Row}
 use Rattle.calculus.specs.Lists.{is_any}
 use Rattle.calculus.specs.Limits.{greatest_level}
 use Rattle.calculus.specs.Term.{Env, Aggs, no_aggs, holds}
-use Rattle.calculus.specs.Who.{Who, Free, Asks}
+use Rattle.calculus.specs.Who.{Who, Unrestricted, AsUser}
 use Rattle.calculus.specs.Database.{Db, Relation, View, permits_on}
 use Rattle.calculus.specs.Stored.{Kept, range_at, rows_at}
 use Rattle.calculus.specs.Rights.{Right, Retrieve, covers, needs_none, permitted, may}
@@ -20,7 +20,7 @@ use Rattle.calculus.specs.VariableRows.{view_rows, rows_within, rows_of}
 use Rattle.calculus.specs.Permission.{Reads, vars_permitted, permitted_within, readable, change_permitted}
 use Rattle.calculus.specs.Aggregate.{aggregates}
 use Rattle.calculus.specs.Answer.{answer}
-use Rattle.calculus_laws.proofs.Through.{rows_told, permitted_told, both_told}
+use Rattle.calculus_laws.proofs.Through.{rows_said, permitted_said, both_said}
 
 -- where no item passes the first test, none passes both
 none_of_both : {X : Type 0} (p q : X → Bool) (xs : List X) → list_any p xs ≡ false → list_any (λ x. p x && q x) xs ≡ false
@@ -38,8 +38,8 @@ either_way false b c f h = f h
 
 pub no_row : (db : Db) (who : Who) (right : Right) (attrs : List ℕ) (key : RelKey) (row : Row) → permitted db who right attrs key ≡ false → may db who right attrs key row ≡ false
 unfolding permitted may
-no_row db Free right attrs key row h = cc h
-no_row db (Asks asker) right attrs key row h =
+no_row db Unrestricted right attrs key row h = cc h
+no_row db (AsUser asker) right attrs key row h =
     either_way (needs_none db asker right key) _ _
     (none_of_both (λ (p : Permit). covers p asker right attrs) (λ p. holds no_aggs p.qual (row ∷ [])) (permits_on db key)) h
 
@@ -137,7 +137,7 @@ none_viewed reads source none view h = none_given no_aggs view.query (assigned s
 
 none_within : (db : Db) (who : Who) (n : ℕ) (key : RelKey) (attrs : List ℕ) → permitted_within n db who key attrs ≡ false → rows_within n db who key attrs ≡ []
 none_within db who =
-    both_told (permitted_told db who) (rows_told db who) db (λ n key reads source. (attrs : List ℕ) → reads attrs ≡ false → source attrs ≡ []) (record {
+    both_said (permitted_said db who) (rows_said db who) db (λ n key reads source. (attrs : List ℕ) → reads attrs ≡ false → source attrs ≡ []) (record {
       nothing = λ n f g key e attrs h. refl;
       kept = λ n f g key relation e attrs h. filter_none (may db who Retrieve attrs key) relation.rows (λ row. no_row db who Retrieve attrs key row h);
       view_past = λ key view e attrs h. refl;

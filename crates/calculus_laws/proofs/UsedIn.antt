@@ -9,7 +9,7 @@ use Rattle.calculus.specs.declared.query.RelKey.{RelKey}
 use Rattle.calculus.specs.Tree.{neg, abs, operation, concat, both, either, negated, target_row, query}
 use Rattle.calculus.specs.QueryParts.{aggregates_of, term_aggregates, qual_aggregates, query_aggregates, vars_of, targets_of, qual_of}
 use Rattle.calculus.specs.Used.{used, used_in_links, used_in_qual, used_in_query}
-use Rattle.calculus_laws.specs.Expansion.{term_at, put_in_attribute, put_in, put_in_qual, put_in_targets, have_values, expanded}
+use Rattle.calculus_laws.specs.Expansion.{term_at, substituted_attribute, substituted, substituted_qual, substituted_targets, have_values, expanded}
 use Rattle.calculus_laws.proofs.Members.{In, Within, In-append_left, In-append_right, append-In}
 use Rattle.calculus_laws.proofs.Plain.{none_left, none_right, in_targets}
 
@@ -21,8 +21,8 @@ targets_of-query vars ts p = items ts
     items [] = refl
     items (t ∷ ts) = ap (λ more. t ∷ more) (items ts)
 
-pub targets_of-expanded : (view q : Query) → targets_of (expanded view q) ≡ put_in_targets (targets_of view) (targets_of q)
-targets_of-expanded view q = targets_of-query (vars_of view) (put_in_targets (targets_of view) (targets_of q)) (qual_of (expanded view q))
+pub targets_of-expanded : (view q : Query) → targets_of (expanded view q) ≡ substituted_targets (targets_of view) (targets_of q)
+targets_of-expanded view q = targets_of-query (vars_of view) (substituted_targets (targets_of view) (targets_of q)) (qual_of (expanded view q))
 
 -- the attributes of a variable that these targets use
 abbrev pub used_in_targets : ℕ → List Target → List ℕ
@@ -38,7 +38,7 @@ at_within v [] place a h = absurd h
 at_within v (t ∷ ts) zero a h = In-append_left (used v t.term) (used_in_targets v ts) a h
 at_within v (t ∷ ts) (suc place) a h = In-append_right (used v t.term) (used_in_targets v ts) a (at_within v ts place a h)
 
-attribute_within : (v : ℕ) (targets : List Target) (var attr : ℕ) → Within (used v (put_in_attribute targets var attr)) (used_in_targets v targets)
+attribute_within : (v : ℕ) (targets : List Target) (var attr : ℕ) → Within (used v (substituted_attribute targets var attr)) (used_in_targets v targets)
 attribute_within v targets zero attr a h = at_within v targets attr a h
 attribute_within v targets (suc var) attr a h = absurd h
 
@@ -46,40 +46,40 @@ links_within : (v : ℕ) {n : _} (items : Row_of-QAgg n) (all : List ℕ) → ag
 links_within v end_of-QAgg all h a k = absurd k
 links_within v (more_of-QAgg slot op source arg bys by links link qual rest) all h a k = cc h
 
-put_in_within : (v : ℕ) (targets : List Target) (t : QTerm) → term_aggregates t ≡ [] → Within (used v (put_in targets t)) (used_in_targets v targets)
+substituted_within : (v : ℕ) (targets : List Target) (t : QTerm) → term_aggregates t ≡ [] → Within (used v (substituted targets t)) (used_in_targets v targets)
 unfolding term_aggregates
-put_in_within v targets (Int n) plain a h = absurd h
-put_in_within v targets (Chars bytes) plain a h = absurd h
-put_in_within v targets (Attr var attr) plain a h = attribute_within v targets var attr a h
-put_in_within v targets (neg t) plain a h = put_in_within v targets t plain a h
-put_in_within v targets (abs t) plain a h = put_in_within v targets t plain a h
-put_in_within v targets (operation op t u) plain a h = within_both (used v (put_in targets t)) (used v (put_in targets u)) (used_in_targets v targets)
-    (put_in_within v targets t (none_left (term_aggregates t) (term_aggregates u) plain))
-    (put_in_within v targets u (none_right (term_aggregates t) (term_aggregates u) plain)) a h
-put_in_within v targets (concat t u) plain a h = within_both (used v (put_in targets t)) (used v (put_in targets u)) (used_in_targets v targets)
-    (put_in_within v targets t (none_left (term_aggregates t) (term_aggregates u) plain))
-    (put_in_within v targets u (none_right (term_aggregates t) (term_aggregates u) plain)) a h
-put_in_within v targets (Agg' mark items) plain a h = links_within v items (used_in_targets v targets) plain a h
+substituted_within v targets (Int n) plain a h = absurd h
+substituted_within v targets (Chars bytes) plain a h = absurd h
+substituted_within v targets (Attr var attr) plain a h = attribute_within v targets var attr a h
+substituted_within v targets (neg t) plain a h = substituted_within v targets t plain a h
+substituted_within v targets (abs t) plain a h = substituted_within v targets t plain a h
+substituted_within v targets (operation op t u) plain a h = within_both (used v (substituted targets t)) (used v (substituted targets u)) (used_in_targets v targets)
+    (substituted_within v targets t (none_left (term_aggregates t) (term_aggregates u) plain))
+    (substituted_within v targets u (none_right (term_aggregates t) (term_aggregates u) plain)) a h
+substituted_within v targets (concat t u) plain a h = within_both (used v (substituted targets t)) (used v (substituted targets u)) (used_in_targets v targets)
+    (substituted_within v targets t (none_left (term_aggregates t) (term_aggregates u) plain))
+    (substituted_within v targets u (none_right (term_aggregates t) (term_aggregates u) plain)) a h
+substituted_within v targets (Agg' mark items) plain a h = links_within v items (used_in_targets v targets) plain a h
 
-qual_within : (v : ℕ) (targets : List Target) (q : QQual) → qual_aggregates q ≡ [] → Within (used_in_qual v (put_in_qual targets q)) (used_in_targets v targets)
+qual_within : (v : ℕ) (targets : List Target) (q : QQual) → qual_aggregates q ≡ [] → Within (used_in_qual v (substituted_qual targets q)) (used_in_targets v targets)
 unfolding qual_aggregates
 qual_within v targets True plain a h = absurd h
-qual_within v targets (Cmp op t u) plain a h = within_both (used v (put_in targets t)) (used v (put_in targets u)) (used_in_targets v targets)
-    (put_in_within v targets t (none_left (term_aggregates t) (term_aggregates u) plain))
-    (put_in_within v targets u (none_right (term_aggregates t) (term_aggregates u) plain)) a h
-qual_within v targets (Like t pattern same) plain a h = put_in_within v targets t plain a h
-qual_within v targets (both p q) plain a h = within_both (used_in_qual v (put_in_qual targets p)) (used_in_qual v (put_in_qual targets q)) (used_in_targets v targets)
+qual_within v targets (Cmp op t u) plain a h = within_both (used v (substituted targets t)) (used v (substituted targets u)) (used_in_targets v targets)
+    (substituted_within v targets t (none_left (term_aggregates t) (term_aggregates u) plain))
+    (substituted_within v targets u (none_right (term_aggregates t) (term_aggregates u) plain)) a h
+qual_within v targets (Like t pattern same) plain a h = substituted_within v targets t plain a h
+qual_within v targets (both p q) plain a h = within_both (used_in_qual v (substituted_qual targets p)) (used_in_qual v (substituted_qual targets q)) (used_in_targets v targets)
     (qual_within v targets p (none_left (qual_aggregates p) (qual_aggregates q) plain))
     (qual_within v targets q (none_right (qual_aggregates p) (qual_aggregates q) plain)) a h
-qual_within v targets (either p q) plain a h = within_both (used_in_qual v (put_in_qual targets p)) (used_in_qual v (put_in_qual targets q)) (used_in_targets v targets)
+qual_within v targets (either p q) plain a h = within_both (used_in_qual v (substituted_qual targets p)) (used_in_qual v (substituted_qual targets q)) (used_in_targets v targets)
     (qual_within v targets p (none_left (qual_aggregates p) (qual_aggregates q) plain))
     (qual_within v targets q (none_right (qual_aggregates p) (qual_aggregates q) plain)) a h
 qual_within v targets (negated p) plain a h = qual_within v targets p plain a h
 
-targets_within : (v : ℕ) (targets ts : List Target) → in_targets ts ≡ [] → Within (used_in_targets v (put_in_targets targets ts)) (used_in_targets v targets)
+targets_within : (v : ℕ) (targets ts : List Target) → in_targets ts ≡ [] → Within (used_in_targets v (substituted_targets targets ts)) (used_in_targets v targets)
 targets_within v targets [] plain a h = absurd h
-targets_within v targets (t ∷ ts) plain a h = within_both (used v (put_in targets t.term)) (used_in_targets v (put_in_targets targets ts)) (used_in_targets v targets)
-    (put_in_within v targets t.term (none_left (term_aggregates t.term) (in_targets ts) plain))
+targets_within v targets (t ∷ ts) plain a h = within_both (used v (substituted targets t.term)) (used_in_targets v (substituted_targets targets ts)) (used_in_targets v targets)
+    (substituted_within v targets t.term (none_left (term_aggregates t.term) (in_targets ts) plain))
     (targets_within v targets ts (none_right (term_aggregates t.term) (in_targets ts) plain)) a h
 
 -- ---- to require values of the targets is to use what they use
@@ -108,10 +108,10 @@ expanded_within v view q plain a h =
     a (subst (λ ts. In a (used_in_targets v ts ++ (filled ++ (own ++ needed)))) (targets_of-expanded view q) h)
   where
     puts : List ℕ
-    puts = used_in_targets v (put_in_targets (targets_of view) (targets_of q))
+    puts = used_in_targets v (substituted_targets (targets_of view) (targets_of q))
 
     filled : List ℕ
-    filled = used_in_qual v (put_in_qual (targets_of view) (qual_of q))
+    filled = used_in_qual v (substituted_qual (targets_of view) (qual_of q))
 
     taken : List ℕ
     taken = used_in_targets v (targets_of view)
@@ -133,7 +133,7 @@ within_expanded v view q a h =
     (λ b k. In-append_right own needed b (within_needed v (targets_of view) b k)) (In-append_left own needed) a h))
   where
     filled : List ℕ
-    filled = used_in_qual v (put_in_qual (targets_of view) (qual_of q))
+    filled = used_in_qual v (substituted_qual (targets_of view) (qual_of q))
 
     own : List ℕ
     own = used_in_qual v (qual_of view)

@@ -20,7 +20,7 @@ use Rattle.calculus.specs.Database.{Db, Relation, View, relation_at, view_at}
 use Rattle.calculus.specs.Catalogue.{catalogue_at}
 use Rattle.calculus.specs.Stored.{Range, Kept, Viewed, range_at}
 use Rattle.calculus.specs.QueryParts.{targets_of, qual_of, term_aggregates, qual_aggregates, query_aggregates}
-use Rattle.calculus.specs.IsDatabase.{IsDatabase, has_kind, query_stands, var_kinds}
+use Rattle.calculus.specs.IsDatabase.{IsDatabase, has_kind, valid_query, var_kinds}
 use Rattle.calculus.specs.Assignments.{assigned}
 use Rattle.calculus.specs.Targets.{rows_given}
 use Rattle.calculus.specs.VariableRows.{range_rows, view_rows, rows_within, rows_of}
@@ -111,7 +111,7 @@ targets_are_plain vars (t ∷ ts) h =
     let fit = both_true (has_kind (kind_of t.term vars) t.kind) (list_all (λ t. has_kind (kind_of t.term vars) t.kind) ts) h in
     neither (term_aggregates t.term) (in_targets ts) (term_plain vars t.term (kind_there (kind_of t.term vars) t.kind fit.0)) (targets_are_plain vars ts fit.1)
 
-pub stands_plain : (db : Db) (q : Query) → query_stands db q ≡ true → query_aggregates q ≡ []
+pub stands_plain : (db : Db) (q : Query) → valid_query db q ≡ true → query_aggregates q ≡ []
 stands_plain db q h =
     let fit = both_true (list_all (λ t. has_kind (kind_of t.term (var_kinds db q)) t.kind) (targets_of q)) (kinds_fit (qual_of q) (var_kinds db q)) h in
     neither (in_targets (targets_of q)) (qual_aggregates (qual_of q)) (targets_are_plain (var_kinds db q) (targets_of q) fit.0) (qual_plain (var_kinds db q) (qual_of q) fit.1)
@@ -184,7 +184,7 @@ pub view_answers : (db : Db) → IsDatabase db → (who : Who) (key : RelKey) (v
 unfolding answer
 view_answers db d who key view v attrs =
     let is : In view db.views = (found (λ v. same_key v.info.key key) db.views view v).0 in
-    let plain : query_aggregates view.query ≡ [] = stands_plain db view.query (all_at (λ v. query_stands db v.query) db.views view is d.view_queries_stand) in
+    let plain : query_aggregates view.query ≡ [] = stands_plain db view.query (all_at (λ v. valid_query db v.query) db.views view is d.view_queries_stand) in
     sym (more_levels_in_a_database db d who key (suc greatest_level) (omega arith) attrs)
     ∙ given db who key view attrs (ranged db d key view v)
     ∙ given_plain no_aggs (aggregates db who) view.query (assigned (rows_of db who) view.query) plain

@@ -14,7 +14,7 @@ use Rattle.calculus.specs.Reads.{vars_read, reads_of, source_reads, query_reads}
 use Rattle.calculus_laws.specs.Reading.{IsKept}
 use Rattle.calculus_laws.proofs.Asked.{Contains-In}
 use Rattle.calculus_laws.proofs.Members.{In, In-append_left, In-append_right, append-In}
-use Rattle.calculus_laws.proofs.Through.{told, reads_told, each_told}
+use Rattle.calculus_laws.proofs.Through.{said, reads_said, each_said}
 
 -- ---- what one of several gives
 
@@ -45,9 +45,9 @@ itself : (db : Db) (key : RelKey) (relation : Relation) → range_at db key ≡ 
 itself db key relation e read (inl same) = (relation, ap (range_at db) (sym same) ∙ e)
 itself db key relation e read (inr none) = absurd none
 
-each_kept : (db : Db) (n : ℕ) (key : RelKey) → AreKept db (told reads_told n db key)
+each_kept : (db : Db) (n : ℕ) (key : RelKey) → AreKept db (said reads_said n db key)
 each_kept db =
-    each_told reads_told db (λ n key reads. AreKept db reads) (record {
+    each_said reads_said db (λ n key reads. AreKept db reads) (record {
       nothing = λ n f key e read none. absurd none;
       kept = λ n f key relation e. itself db key relation e;
       view_past = λ key view e read none. absurd none;

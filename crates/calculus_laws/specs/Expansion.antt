@@ -26,29 +26,29 @@ term_at (t ∷ ts) zero = t.term
 term_at (t ∷ ts) (suc place) = term_at ts place
 
 -- what is put in for an attribute of a variable, where 0 is the only variable
-abbrev pub put_in_attribute : List Target → ℕ → ℕ → QTerm
-put_in_attribute targets zero attr = term_at targets attr
-put_in_attribute targets (suc var) attr = no_value
+abbrev pub substituted_attribute : List Target → ℕ → ℕ → QTerm
+substituted_attribute targets zero attr = term_at targets attr
+substituted_attribute targets (suc var) attr = no_value
 
 -- the term with these targets put in for the attributes of its only variable
-abbrev pub put_in : List Target → QTerm → QTerm
-put_in targets (Int n) = Int n
-put_in targets (Chars bytes) = Chars bytes
-put_in targets (Attr var attr) = put_in_attribute targets var attr
-put_in targets (neg t) = neg (put_in targets t)
-put_in targets (abs t) = abs (put_in targets t)
-put_in targets (operation op t u) = operation op (put_in targets t) (put_in targets u)
-put_in targets (concat t u) = concat (put_in targets t) (put_in targets u)
-put_in targets (Agg' mark row) = Agg' mark row
+abbrev pub substituted : List Target → QTerm → QTerm
+substituted targets (Int n) = Int n
+substituted targets (Chars bytes) = Chars bytes
+substituted targets (Attr var attr) = substituted_attribute targets var attr
+substituted targets (neg t) = neg (substituted targets t)
+substituted targets (abs t) = abs (substituted targets t)
+substituted targets (operation op t u) = operation op (substituted targets t) (substituted targets u)
+substituted targets (concat t u) = concat (substituted targets t) (substituted targets u)
+substituted targets (Agg' mark row) = Agg' mark row
 
 -- the same for a qualification: a target that is a text constant is compared as a value, and is no pattern
-abbrev pub put_in_qual : List Target → QQual → QQual
-put_in_qual targets True = True
-put_in_qual targets (Cmp op t u) = Cmp op (put_in targets t) (put_in targets u)
-put_in_qual targets (Like t pattern same) = Like (put_in targets t) pattern same
-put_in_qual targets (both p q) = both (put_in_qual targets p) (put_in_qual targets q)
-put_in_qual targets (either p q) = either (put_in_qual targets p) (put_in_qual targets q)
-put_in_qual targets (negated p) = negated (put_in_qual targets p)
+abbrev pub substituted_qual : List Target → QQual → QQual
+substituted_qual targets True = True
+substituted_qual targets (Cmp op t u) = Cmp op (substituted targets t) (substituted targets u)
+substituted_qual targets (Like t pattern same) = Like (substituted targets t) pattern same
+substituted_qual targets (both p q) = both (substituted_qual targets p) (substituted_qual targets q)
+substituted_qual targets (either p q) = either (substituted_qual targets p) (substituted_qual targets q)
+substituted_qual targets (negated p) = negated (substituted_qual targets p)
 
 -- each target has a value: a term equals itself exactly where it has one
 abbrev pub have_values : List Target → QQual
@@ -56,14 +56,14 @@ have_values [] = True
 have_values (t ∷ ts) = both (Cmp Eq t.term t.term) (have_values ts)
 
 -- the targets of the query with these put in
-abbrev pub put_in_targets : List Target → List Target → List Target
-put_in_targets targets ts = map (λ t. record { name = t.name; kind = t.kind; term = put_in targets t.term }) ts
+abbrev pub substituted_targets : List Target → List Target → List Target
+substituted_targets targets ts = map (λ t. record { name = t.name; kind = t.kind; term = substituted targets t.term }) ts
 
 -- the query over the variables of the view's text: with the view's targets put in, the view's qualification joined, and each target of the view required to have a value
 abbrev pub expanded : Query → Query → Query
 expanded view q =
-    query (vars_of view) (put_in_targets (targets_of view) (targets_of q))
-    (both (put_in_qual (targets_of view) (qual_of q)) (both (qual_of view) (have_values (targets_of view))))
+    query (vars_of view) (substituted_targets (targets_of view) (targets_of q))
+    (both (substituted_qual (targets_of view) (qual_of q)) (both (qual_of view) (have_values (targets_of view))))
 
 -- the variable ranges over no view
 abbrev pub is_no_view : Option Range → Bool

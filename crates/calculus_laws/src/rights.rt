@@ -4,7 +4,7 @@ ghost use Rattle.std.specs.Prelude.{◌≡◌, ℕ, true, false, List, [], Some}
 ghost use Rattle.calculus.specs.declared.query.RelKey.{RelKey};
 ghost use Rattle.calculus.specs.declared.query.Query.{Query};
 ghost use Rattle.calculus.specs.Rows.{Row, has};
-ghost use Rattle.calculus.specs.Who.{Who, Free};
+ghost use Rattle.calculus.specs.Who.{Who, Unrestricted};
 ghost use Rattle.calculus.specs.Database.{Db, Relation};
 ghost use Rattle.calculus.specs.Stored.{Kept, range_at};
 ghost use Rattle.calculus.specs.Rights.{Right, Retrieve, permitted, may};
@@ -32,12 +32,12 @@ pub fn what_is_not_permitted_is_not_used()
         → vars_permitted (readable db who) q (used_vars q) ≡ false → answer db who q ≡ [] }
 {}
 
-/// A user sees no row that is not there for nobody in particular: neither as a row of a variable, through
+/// A user sees no row that is not there unrestricted: neither as a row of a variable, through
 /// views of views, nor in the answer of a query without aggregates. With aggregates this is not so, as a
 /// user's count may be smaller.
 pub fn nobody_sees_more_than_is_there()
     ensures variable { (db : Db) (who : Who) (key : RelKey) (attrs : List ℕ) (row : Row)
-        → has (rows_of db who key attrs) row ≡ true → has (rows_of db Free key attrs) row ≡ true }
+        → has (rows_of db who key attrs) row ≡ true → has (rows_of db Unrestricted key attrs) row ≡ true }
     ensures query { (db : Db) (who : Who) (q : Query) (row : Row)
-        → query_aggregates q ≡ [] → has (answer db who q) row ≡ true → has (answer db Free q) row ≡ true }
+        → query_aggregates q ≡ [] → has (answer db who q) row ≡ true → has (answer db Unrestricted q) row ≡ true }
 {}

@@ -1,6 +1,6 @@
 //! The answers of queries over given rows.
 
-use crate::made::one;
+use crate::shared::one;
 use crate::spelled::query;
 use calculus::{Row, RowSet, Value};
 use ovqp::{ProductFault, answer_over, is_used, uses};

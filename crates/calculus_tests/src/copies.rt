@@ -1,9 +1,9 @@
 //! Copies of replies, of changes of rows, of what they are made of, and of trees.
 
-use crate::made::{boxed, has_copy, is_copied, named, one, set, table, text};
 use crate::requests::{
     ASKED, CREATION, IMPORT, PERMISSION, RULING, UPDATE, asked_for, change_of_base, file,
 };
+use crate::shared::{boxed, has_copy, is_copied, named, one, set, table, text};
 use crate::statements::{copying, retrieval};
 use calculus::{Change, Column, Kind, Pair, Probe, Reply, Row, Table, Value};
 use std::alloc::Global;

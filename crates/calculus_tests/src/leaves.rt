@@ -1,6 +1,6 @@
 //! Names, text constants, texts and values.
 
-use crate::made::text;
+use crate::shared::text;
 use calculus::{Chars, Domain, Name, Text, TryCopy, Value};
 use std::alloc::Global;
 use std::process::Abort;

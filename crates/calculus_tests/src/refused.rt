@@ -1,6 +1,6 @@
 //! Calls to which memory is refused.
 
-use crate::changes::{Told, told_of};
+use crate::pair_changes::{Outcome, outcome_of};
 use calculus::{Name, OutOfMemory, Pair, QTerm, Row, RowSet, TryCopy, Value};
 use memory::both;
 use scalar_eval::{Assigned, value_of};
@@ -63,10 +63,10 @@ fn pairs(alloc: Global) -> Result<Vec<Pair>, OutOfMemory> {
 fn comes(alloc: Global, pairs: &[Pair]) -> bool {
     let rows = RowSet::new(alloc);
     let made = set_replace(alloc, &rows, pairs);
-    let told = told_of(&made);
+    let outcome = outcome_of(&made);
     drop(made);
     drop(rows);
-    told == Told::Comes(1) || told == Told::Wanting
+    outcome == Outcome::Comes(1) || outcome == Outcome::Wanting
 }
 
 /// Whether one row comes where one is replaced, or memory is wanting.

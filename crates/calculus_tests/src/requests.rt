@@ -1,6 +1,6 @@
 //! What is asked for, a change of a database, and a file of rows.
 
-use crate::made::one;
+use crate::shared::one;
 use calculus::{Checked, DbChange, Domain, RelFile, Spec};
 use quel_tree::{CheckedTree, DbChangeTree, tree_of};
 use std::alloc::Global;

@@ -1,6 +1,6 @@
 //! Sets of rows.
 
-use crate::made::{is_copied, row, rows, set};
+use crate::shared::{is_copied, row, rows, set};
 use calculus::{Row, RowSet};
 use std::alloc::Global;
 use std::process::Abort;

@@ -1,6 +1,6 @@
 //! Statements.
 
-use crate::made::{boxed, chars, named, one};
+use crate::shared::{boxed, chars, named, one};
 use calculus::{
     AggOp, AggTerm, ArithOp, Boxed, CmpOp, CopyForm, Item, List, Name, Qual, Statement, Term,
 };

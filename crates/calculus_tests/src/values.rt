@@ -1,6 +1,6 @@
 //! The values of terms.
 
-use crate::made::{one, row, table};
+use crate::shared::{one, row, table};
 use crate::spelled::{put, put_number, put_operation, query_for};
 use calculus::{AggTable, ArithOp, Value};
 use scalar_eval::{Assigned, value_of};

@@ -20,7 +20,7 @@ use Rattle.calculus.specs.Keys.{same_key}
 use Rattle.calculus.specs.Limits.{most_attributes, most_row_bytes}
 use Rattle.calculus.specs.Lists.{is_any}
 use Rattle.calculus.specs.Name.{is_name}
-use Rattle.am_traits.specs.Told.{known_at}
+use Rattle.base_trait.specs.Known.{known_at}
 use Rattle.calculus.specs.declared.schema.RelFile.{RelFile}
 use Rattle.memory.specs.declared.out_of_memory.OutOfMemory.{OutOfMemory}
 use Rattle.page_cells.specs.RowBytes.{widths}

@@ -11,7 +11,7 @@ use Rattle.calculus.specs.declared.schema.Spec.{Spec}
 use Rattle.calculus.specs.declared.schema.Spec.TheVariants.{Heap, Hash, Isam, View, Index}
 use Rattle.calculus.specs.Database.{Db, Relation, entries, entry_at}
 use Rattle.calculus.specs.Database as database
-use Rattle.calculus.specs.IsDatabase.{IsDatabase, are_stored, index_stands, view_info_stands}
+use Rattle.calculus.specs.IsDatabase.{IsDatabase, are_stored, valid_index, valid_view_info}
 use Rattle.calculus.specs.Lists.{is_any}
 use Rattle.calculus.specs.Structures.{is_index, is_structure, is_view}
 use Rattle.calculus.specs.declared.schema.RelFile.{RelFile}
@@ -51,10 +51,10 @@ has_domains db is info at off none = elim (in_either (map (λ (r : Relation). r.
   | inr b ↦ elim (in_either (map (λ (v : database.View). v.info) db.views) _ info b) [
     | inl a ↦ (
         let m = map_in (λ (v : database.View). v.info) db.views info a in
-        true≢false (sym (ap (λ (i : RelInfo). is_view i.spec) m.2 ∙ (both (is_view m.0.info.spec) _ (of_tests (λ (v : database.View). view_info_stands v.info) db.views m.0 is.view_infos_stand m.1)).0) ∙ off))
+        true≢false (sym (ap (λ (i : RelInfo). is_view i.spec) m.2 ∙ (both (is_view m.0.info.spec) _ (of_tests (λ (v : database.View). valid_view_info v.info) db.views m.0 is.view_infos_stand m.1)).0) ∙ off))
     | inr c ↦ (
         let m = map_in (λ (x : database.Index). x.info) db.indexes info c in
-        let one = both (is_index m.0.info.spec) _ (of_tests (index_stands db) db.indexes m.0 is.indexes_stand m.1) in
+        let one = both (is_index m.0.info.spec) _ (of_tests (valid_index db) db.indexes m.0 is.indexes_stand m.1) in
         let two = both (database.is_relation db m.0.base) _ one.1 in
         no_attributes info.attrs (ap (λ (i : RelInfo). not (is_any i.attrs)) m.2 ∙ (both (not (is_any m.0.info.attrs)) _ two.1).0) none)
   ]

@@ -17,7 +17,7 @@ use Rattle.calculus.specs.Stored.{rows_at}
 use Rattle.calculus.specs.Value.{row_cmp}
 use Rattle.disk_model.specs.Disk.{Image}
 use Rattle.disk_model.specs.declared.disk.Addr.{Addr}
-use Rattle.access_traits.specs.Placed.{rows_of}
+use Rattle.am_traits.specs.Placed.{rows_of}
 use Rattle.calculus.specs.declared.schema.RelFile.{RelFile}
 use Rattle.heap_am.specs.Heap.{HeapFault, heap_rows}
 use Rattle.page_chain.specs.Lists.{◌>>=◌, each, once}
@@ -123,10 +123,10 @@ pub record MayCome (c : Catalog) (db : Db) (key : RelKey) (rows : List Row) : Ty
 
 pub may_come : (c : Catalog) (m : Image) (db : Db) (key : RelKey) (file : RelFile) (rows : List Row) → IsDatabase db → Knows c m db → is_in c.loaded key ≡ false → is_relation (database_of c.plain) key ≡ true
     → IsFileOf (database_of c.plain) (files_of c.files) key file → ((placed : _) → heap_rows file m ≡ Some placed → rows ≡ rows_of placed) → MayCome c db key rows
-may_come c m db key file rows is k unread h f told =
+may_come c m db key file rows is k unread h f known =
     let has = is_in c.loaded in
     let o = on_pages c m db key file k h f in
-    let set : once row_cmp rows ≡ Some o.r.rows = ap (once row_cmp) (told o.on.placed o.on.are) ∙ o.on.set in
+    let set : once row_cmp rows ≡ Some o.r.rows = ap (once row_cmp) (known o.on.placed o.on.are) ∙ o.on.set in
     let there : Some o.r ≡ relation_at db o.r.info.key = sym (ap (relation_at db) o.named ∙ o.there) in
     let new : has o.r.info.key ≡ false = ap has o.named ∙ unread in
     let change = λ (key : RelKey). Rows key [] rows in

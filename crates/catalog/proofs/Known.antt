@@ -1,4 +1,4 @@
--- What is known when a change was laid.
+-- What is known when a change was applied.
 use Rattle.std.proofs.Common.{◌≡◌, refl, sym, ap, subst, ◌∙◌, inl, inr, ℕ, ◌<◌, ◌≤◌, nat_le, bytes_eq, not, ◌||◌, Bool, true, List, [], ◌∷◌, map, Option, Some, arith}
 use Rattle.std.proofs.lemmas.Bool.Decides.{nat_tests}
 use Rattle.std.proofs.lemmas.Slice.Eq.{bytes_eq-Decides}
@@ -155,7 +155,7 @@ module _ (c : Catalog) (m : Image) (db : Db) (made : DbChange) (is : IsDatabase 
   pub may_take : MayTake (database_of c.plain) db (files_of c.files) made m
   may_take = record { is = is; over = m; has = knows.has; sees = sees_itself made (files_of c.files) m; schema = ap schema_of knows.plain ∙ has_schema (is_in c.loaded) db; lawful = lawful }
 
-  module _ (file used : ℕ) (told : Option Image) (its : HasMade made db (files_of c.files) file used m told) where
+  module _ (file used : ℕ) (known : Option Image) (its : HasMade made db (files_of c.files) file used m known) where
     first_stay : (b : Addr) → b.file < 16 → its.image b ≡ m b
     first_stay = first_files_stay made db (files_of c.files) file used m its.image lawful knows.has its.suits its.makes
 
@@ -178,7 +178,7 @@ module _ (c : Catalog) (m : Image) (db : Db) (made : DbChange) (is : IsDatabase 
     pub part_lawful : IsLawful (database_of c.plain) made
     part_lawful = same.lawful
 
-    module _ (file used : ℕ) (told : Option Image) (its : HasMade made db (files_of c.files) file used m told) where
+    module _ (file used : ℕ) (known : Option Image) (its : HasMade made db (files_of c.files) file used m known) where
       follows : (kept : Files) → AreKept made (database_of c.plain) (files_after made file used (files_of c.files)) kept → HavePlaces (coming_of made (files_of c.files) file used (database_of c.plain))
           → Follows db (database_of c.plain) made (files_of c.files) (files_after made file used (files_of c.files)) kept (pages_of its.image)
       follows kept are places =
@@ -193,15 +193,15 @@ module _ (c : Catalog) (m : Image) (db : Db) (made : DbChange) (is : IsDatabase 
         stands = λ places. (follows (files_after made file used (files_of c.files)) (itself made (database_of c.plain) (files_after made file used (files_of c.files))) places).stands;
       }
 
-      pub known_then : (now : Catalog) (told_now : Option Image) → IsKept c now made file used → HavePlaces (coming_of made (files_of c.files) file used (database_of c.plain))
-          → Written its.image told_now now.ends (changed (going_of made (files_of c.files) file used (database_of c.plain)) (coming_of made (files_of c.files) file used (database_of c.plain)) (printed db (files_of c.files)))
-          → KnowsAfter now m told_now db made
-      known_then now told_now kept places written =
+      pub known_then : (now : Catalog) (known_now : Option Image) → IsKept c now made file used → HavePlaces (coming_of made (files_of c.files) file used (database_of c.plain))
+          → Written its.image known_now now.ends (changed (going_of made (files_of c.files) file used (database_of c.plain)) (coming_of made (files_of c.files) file used (database_of c.plain)) (printed db (files_of c.files)))
+          → KnowsAfter now m known_now db made
+      known_then now known_now kept places written =
           let part = database_of c.plain in
           let its_catalogue = follows (files_of now.files) (kept_after part c.files now.files file used same.is (part_bases c m db knows) made same.lawful its.suits kept.places) places in
           record {
             image = written.image;
-            told_still = written.told_still;
+            still_known = written.still_known;
             knows = record {
               plain = kept.plain ∙ ap (λ (d : Db). laid d made) knows.plain ∙ takes_changes.after (is_in c.loaded) db made is lawful read ∙ sym (λ i. loaded_part (λ key. kept.loaded key i) (laid db made));
               catalogue = written.holds ∙ ap Some its_catalogue.is;
@@ -210,5 +210,5 @@ module _ (c : Catalog) (m : Image) (db : Db) (made : DbChange) (is : IsDatabase 
               owners = owners_after made db knows.owners;
               bases = bases_after db c.files now.files file used is knows.bases made lawful its.suits kept.places its_catalogue.has.are_files its_catalogue.has.files_differ;
             };
-            head = λ b e. written.others b (λ k. omega (arith, e, k)) (λ k. omega (arith, e, k)) (λ k. omega (arith, e, k)) ∙ first_stay file used told its b (omega (arith, e));
+            head = λ b e. written.others b (λ k. omega (arith, e, k)) (λ k. omega (arith, e, k)) (λ k. omega (arith, e, k)) ∙ first_stay file used known its b (omega (arith, e));
           }

@@ -1,4 +1,4 @@
--- What lies on pages that stand for a database is known of it.
+-- What lies on pages that denote a database is known of it.
 use Rattle.std.proofs.Common.{◌≡◌, refl, sym, ap, subst, ◌∙◌, inl, inr, ℕ, ◌&&◌, nat_le, Bool, true, false, List, [], ◌∷◌, ◌++◌, map, Option, Some}
 use Rattle.std.specs.Prelude.{nat_eq}
 use Rattle.std.specs.List.{AllByRecursion, list_all}
@@ -23,14 +23,14 @@ use Rattle.stored_database.specs.Entries.{Entry, entry_cmp}
 use Rattle.stored_database.specs.Names.{is_number32}
 use Rattle.stored_database.specs.Printed.{Files, HasFiles, entries_for, index_entry, is_file, printed, relation_entry, rows_in, view_entry}
 use Rattle.stored_database.specs.Spelled.{domain_of, spelled}
-use Rattle.stored_database.specs.Standing.{standing}
+use Rattle.stored_database.specs.Denoting.{denoted}
 use Rattle.calculus.specs.Structures.{is_structure}
 use Rattle.stored_database.proofs.Exactly.{pages_stand_exactly}
 use Rattle.stored_database.proofs.Members.{IsIn, all_of, filter_in, in_either, map_in, of_all, of_tests, tests_of}
 use Rattle.stored_database.proofs.PrintedLaw.{what_is_printed_is_read}
 use Rattle.stored_database.proofs.Sets.{in_order_in}
 use Rattle.stored_database.proofs.SpelledParts.{OfRelation, relation_parts, spells}
-use Rattle.stored_database.proofs.WhatStands.{what_stands_is_a_database}
+use Rattle.stored_database.proofs.WhatStands.{what_is_denoted_is_a_database}
 use Rattle.stored_database.proofs.Staying.{relation_is}
 use Rattle.catalog_moves.proofs.KeptBases.{same_bases}
 use Rattle.catalog_moves.specs.Files.{files_of, is_in}
@@ -91,9 +91,9 @@ none_on read used pages rows none e = none-some rows (sym (ap (λ (n : ℕ). set
 
 -- ---- the files of what stands there
 
-module _ (c : Catalog) (m : Image) (db : Db) (lies : LiesOn c m) (stands : standing m ≡ Some db) (owners : index_owners_agree db ≡ true) (named : (database_of c.plain).dba ≡ db.dba) where
+module _ (c : Catalog) (m : Image) (db : Db) (lies : LiesOn c m) (stands : denoted m ≡ Some db) (owners : index_owners_agree db ≡ true) (named : (database_of c.plain).dba ≡ db.dba) where
   is : IsDatabase db
-  is = what_stands_is_a_database m db stands
+  is = what_is_denoted_is_a_database m db stands
 
   abbrev cat : Catalogue
   cat = printed (database_of c.plain) (files_of c.files)

@@ -1,9 +1,9 @@
--- What is known in memory lies on the pages when a change was laid.
+-- What is known in memory lies on the pages when a change was applied.
 use Rattle.std.proofs.Common.{◌≡◌, refl, sym, ap, subst, ◌∙◌, inl, inr, true≢false, ℕ, ◌<◌, ◌≤◌, ◌==◌, ◌||◌, nat_le, nat_lt, Bool, true, false, List, Option, Some, arith}
 use Rattle.std.specs.Prelude.{◌⊎◌}
 use Rattle.std.proofs.lemmas.Bool.Decides.{nat_tests}
 use Rattle.std.proofs.lemmas.Option.{same_Some}
-use Rattle.access_traits.specs.Pages.{SameElsewhere}
+use Rattle.am_traits.specs.Pages.{SameElsewhere}
 use Rattle.calculus.specs.declared.change.DbChange.{DbChange}
 use Rattle.calculus.specs.declared.change.DbChange.TheVariants as change
 use Rattle.calculus.specs.declared.query.RelKey.{RelKey}
@@ -263,8 +263,8 @@ kept_file (change.DropRules rel numbers) db after kept key are there = ap (λ (f
 relation_is_there : (db : Db) (key : RelKey) → is_relation db key ≡ true → is_there db key ≡ true
 relation_is_there db key here = let u = under db key here in ap (is_there db) (sym u.named) ∙ relation_there db u.r u.there
 
-module _ (c : Catalog) (m : Image) (made : DbChange) (lies : LiesOn c m) (lawful : IsLawful (database_of c.plain) made) (file used : ℕ) (told : Option Image)
-    (its : HasMade made (database_of c.plain) (files_of c.files) file used m told) where
+module _ (c : Catalog) (m : Image) (made : DbChange) (lies : LiesOn c m) (lawful : IsLawful (database_of c.plain) made) (file used : ℕ) (known : Option Image)
+    (its : HasMade made (database_of c.plain) (files_of c.files) file used m known) where
   -- the pages that are put over those without rows
   abbrev over : Image
   over = put_over made file its.image lies.over
@@ -273,7 +273,7 @@ module _ (c : Catalog) (m : Image) (made : DbChange) (lies : LiesOn c m) (lawful
   abbrev over_made : HasMade made (database_of c.plain) (files_of c.files) file used lies.over (Some over)
   over_made = record {
     image = over;
-    told_still = refl;
+    still_known = refl;
     suits = its.suits;
     makes = makes_over made (database_of c.plain) file used m its.image lies.over its.makes;
   }
@@ -299,11 +299,11 @@ module _ (c : Catalog) (m : Image) (made : DbChange) (lies : LiesOn c m) (lawful
     pub part_prepared : IsPrepared made (files_of c.files) file used (database_of c.plain) (printed (database_of c.plain) (files_of c.files))
     part_prepared = prepared c lies.over (database_of c.plain) made c.plain.is lies.knows lawful read file used (Some over) over_made
 
-    pub lies_then : (now : Catalog) (told_now : Option Image) → IsKept c now made file used → HavePlaces (coming_of made (files_of c.files) file used (database_of c.plain))
-        → Written its.image told_now now.ends (changed (going_of made (files_of c.files) file used (database_of c.plain)) (coming_of made (files_of c.files) file used (database_of c.plain)) (printed (database_of c.plain) (files_of c.files)))
-        → LiesAfter now m told_now
-    lies_then now told_now kept places written =
-        record { image = written.image; told_still = written.told_still; lies = there; head = λ b e. later_first b (omega (arith, e)) (λ k. omega (arith, e, k)) (λ k. omega (arith, e, k)) (λ k. omega (arith, e, k)) }
+    pub lies_then : (now : Catalog) (known_now : Option Image) → IsKept c now made file used → HavePlaces (coming_of made (files_of c.files) file used (database_of c.plain))
+        → Written its.image known_now now.ends (changed (going_of made (files_of c.files) file used (database_of c.plain)) (coming_of made (files_of c.files) file used (database_of c.plain)) (printed (database_of c.plain) (files_of c.files)))
+        → LiesAfter now m known_now
+    lies_then now known_now kept places written =
+        record { image = written.image; still_known = written.still_known; lies = there; head = λ b e. later_first b (omega (arith, e)) (λ k. omega (arith, e, k)) (λ k. omega (arith, e, k)) (λ k. omega (arith, e, k)) }
       where
         part : Db
         part = database_of c.plain
@@ -334,7 +334,7 @@ module _ (c : Catalog) (m : Image) (made : DbChange) (lies : LiesOn c m) (lawful
             (changed (going_of made (files_of c.files) file used (database_of c.plain)) (coming_of made (files_of c.files) file used (database_of c.plain)) (printed (database_of c.plain) (files_of c.files)))
         over_written = record {
           image = with_first_of written.image over;
-          told_still = refl;
+          still_known = refl;
           holds = catalogue_stays written.image (with_first_of written.image over) same_first
               (changed (going_of made (files_of c.files) file used (database_of c.plain)) (coming_of made (files_of c.files) file used (database_of c.plain)) (printed (database_of c.plain) (files_of c.files))) written.holds;
           ends_there = ends_stay written.image (with_first_of written.image over) same_first now.ends written.ends_there;
@@ -347,7 +347,7 @@ module _ (c : Catalog) (m : Image) (made : DbChange) (lies : LiesOn c m) (lawful
         knows : Knows now (with_first_of written.image over) (database_of now.plain)
         knows =
             subst (Knows now (with_first_of written.image over)) (sym kept.plain)
-            (subst (λ (n : Image). Knows now n (laid (database_of c.plain) made)) (same_Some after.image (with_first_of written.image over) (sym after.told_still)) after.knows)
+            (subst (λ (n : Image). Knows now n (laid (database_of c.plain) made)) (same_Some after.image (with_first_of written.image over) (sym after.still_known)) after.knows)
 
         there : LiesOn now written.image
         there = record {

@@ -1,8 +1,8 @@
 -- Why a call may answer a fault that comes of a call in it.
 use Rattle.std.proofs.Common.{arith, ℕ, Option, ◌≡◌, ◌∙◌}
 use Rattle.std.specs.Prelude.{OnErr, Result, Ok, Err}
-use Rattle.access_traits.specs.Causes.{HasFileCause, IsAtFault}
-use Rattle.am_traits.specs.declared.fault.BaseFault.{BaseFault}
+use Rattle.am_traits.specs.Causes.{HasFileCause, IsAtFault}
+use Rattle.base_trait.specs.declared.fault.BaseFault.{BaseFault}
 use Rattle.disk_model.specs.Disk.{Image}
 use Rattle.disk_model.specs.declared.disk.Addr.{Addr}
 use Rattle.page_chain.proofs.Carried.{cause_earlier}

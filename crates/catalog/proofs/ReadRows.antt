@@ -26,7 +26,7 @@ use Rattle.page_chain.specs.Pages.{Pages, pages_of}
 use Rattle.plain_base.specs.Shown.{database_of}
 use Rattle.plain_base.specs.declared.db_plain.DbPlain.{DbPlain}
 use Rattle.schema_laws.proofs.SchemaStands.{schema_is_database}
-use Rattle.catalog_read.specs.declared.parts.SchemaParts.{SchemaParts}
+use Rattle.catalog_read.specs.declared.schema_parts.SchemaParts.{SchemaParts}
 use Rattle.catalog_read.specs.Parts.{index_owners_agree, parts_in, whole}
 use Rattle.stored_database.specs.Catalogue.{Catalogue, IsCatalogue, catalogue_in, listed, most_pages}
 use Rattle.stored_database.specs.Columns.{column_of, column_cmp, is_column}
@@ -46,7 +46,7 @@ use Rattle.stored_database.proofs.PartBytes.{parts_are_their_bytes}
 use Rattle.stored_database.proofs.PrintedLaw.{what_is_printed_is_read}
 use Rattle.stored_database.proofs.Reading.{bind_some, together}
 use Rattle.stored_database.proofs.Sets.{IsOnce, in_order_in, is_once, sorted_in_order}
-use Rattle.stored_database.proofs.WhatStands.{what_stands_is_a_database}
+use Rattle.stored_database.proofs.WhatStands.{what_is_denoted_is_a_database}
 use Rattle.catalog_laws.specs.Loaded.{loaded_part}
 use Rattle.catalog_moves.specs.Files.{files_of, is_in}
 use Rattle.catalog_pages.specs.declared.writing.Ends.{Ends}
@@ -101,7 +101,7 @@ rows_are_a_catalogue es cs ps cat h =
     let p = set_read part_of part_total (λ p. is_part p ≡ true) (λ bytes p h. ((parts_are_their_bytes bytes p).0 h).0) ps c.0 c.1 in
     subst IsCatalogue (same_Some _ cat c.2) (record { entries_ascend = e.0; columns_ascend = l.0; parts_ascend = p.0; are_entries = e.1; are_columns = l.1; are_parts = p.1 })
 
--- ---- the database that pages stand for
+-- ---- the database that pages denote
 
 -- The catalogue on the pages, which spells the database.
 pub record SpelledOn (dba : List ℕ) (m : Image) (db : Db) : Type 0 where
@@ -112,7 +112,7 @@ pub record SpelledOn (dba : List ℕ) (m : Image) (db : Db) : Type 0 where
 
 pub spelled_on : (dba : List ℕ) (m : Image) (db : Db) → HoldsFor dba m db → SpelledOn dba m db
 spelled_on dba m db h =
-    let is_one = what_stands_is_a_database m db h.stands in
+    let is_one = what_is_denoted_is_a_database m db h.stands in
     let p = (pages_stand_exactly m db is_one).0 h.stands in
     record {
       cat = printed db p.files;
@@ -140,7 +140,7 @@ chains_end m chains found = record {
   parts = ends_of (pages_of m 7) chains.parts.rows chains.parts.last found.parts;
 }
 
--- what was made of the rows knows the database that the pages stand for
+-- what was made of the rows knows the database that the pages denote
 pub made_knows : (dba : List ℕ) (m : Image) (db : Db) (chains : Chains) (cat : Catalogue) (c : Catalog)
     → AreFound m chains → HoldsFor dba m db → catalogue_of chains.entries.rows chains.columns.rows chains.parts.rows ≡ Some cat → IsMadeOf dba cat (ends_in chains) c → Knows c m db
 made_knows dba m db chains cat c found h read made =
@@ -234,9 +234,9 @@ module _ (law : SpellsItsSchema) (dba : List ℕ) (cat : Catalogue) (found : Opt
 -- ---- keys of entries
 
 -- the entries of a database lie by their files, and the file tells the key
-keys_tell : (db : Db) (f : Files) (e : Entry) → IsIn e (printed db f).entries → e.file ≡ f.file e.key
+keys_decide : (db : Db) (f : Files) (e : Entry) → IsIn e (printed db f).entries → e.file ≡ f.file e.key
 unfolding printed entries_for
-keys_tell db f e at =
+keys_decide db f e at =
     elim (in_either (map (relation_entry f) db.relations) (map (view_entry f) db.views ++ map (index_entry f) db.indexes) e (in_order_in entry_cmp _ e at)) [
       | inl r ↦ (let m = map_in (relation_entry f) db.relations e r in ap (λ (e : Entry). e.file) m.2 ∙ ap (λ (e : Entry). f.file e.key) (sym m.2))
       | inr o ↦ elim (in_either (map (view_entry f) db.views) (map (index_entry f) db.indexes) e o) [
@@ -264,8 +264,8 @@ keys_differ (x ∷ xs) h n =
 pub entry_keys_differ : (dba : List ℕ) (files : ℕ → Pages) (cat : Catalogue) (db : Db) → IsCatalogue cat → spelled dba files cat ≡ Some db → IsDatabase db → differ_by same_key (map (λ e. e.key) cat.entries) ≡ true
 entry_keys_differ dba files cat db is_cat spells is =
     let p = what_is_read_is_printed dba files cat db is_cat spells is in
-    let told = λ (e : Entry) (at : IsIn e cat.entries). keys_tell db (files_in cat) e (subst (λ (c : Catalogue). IsIn e c.entries) p.0 at) in
-    keys_differ cat.entries (λ a b at bt h. told a at ∙ ap (files_in cat).file (same_key_is a.key b.key h) ∙ sym (told b bt)) (sorted_apart entry_cmp cat.entries is_cat.entries_ascend)
+    let known = λ (e : Entry) (at : IsIn e cat.entries). keys_decide db (files_in cat) e (subst (λ (c : Catalogue). IsIn e c.entries) p.0 at) in
+    keys_differ cat.entries (λ a b at bt h. known a at ∙ ap (files_in cat).file (same_key_is a.key b.key h) ∙ sym (known b bt)) (sorted_apart entry_cmp cat.entries is_cat.entries_ascend)
 
 keys_shown : (es : List EntryRow) → map (λ e. e.key) (map entry_in es) ≡ map (λ e. e.key) es
 keys_shown [] = refl

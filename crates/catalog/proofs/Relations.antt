@@ -8,7 +8,7 @@ use Rattle.std.proofs.lemmas.Bool.Decides.{nat_tests}
 use Rattle.std.proofs.lemmas.Cmp.{tied_itself}
 use Rattle.std.proofs.lemmas.List.Elements.{All-from_recursion}
 use Rattle.std.proofs.lemmas.Option.{same_Some, none-some}
-use Rattle.access_traits.specs.Pages.{SameElsewhere, KeepsOthers}
+use Rattle.am_traits.specs.Pages.{SameElsewhere, KeepsOthers}
 use Rattle.calculus.specs.declared.schema.RelFile.{RelFile}
 use Rattle.calculus.specs.declared.query.RelKey.{RelKey}
 use Rattle.calculus.specs.declared.change.DbChange.{DbChange}
@@ -205,20 +205,20 @@ standing part db f rel remove add file m here its may =
     }
 
 -- the pages are made so
-pub rows_made : (part db : Db) (f : Files) (rel : RelKey) (remove add : List Row) (file : RelFile) (m : Image) (old told : Option Image) (used : ℕ) → is_relation part rel ≡ true → IsFileOf part f rel file
-    → MayTake part db f (change.Rows rel remove add) m → old ≡ Some m → 1 ≤ used → used < 2 ^ 32 → KeepsOthers file.file old told
+pub rows_made : (part db : Db) (f : Files) (rel : RelKey) (remove add : List Row) (file : RelFile) (m : Image) (old known : Option Image) (used : ℕ) → is_relation part rel ≡ true → IsFileOf part f rel file
+    → MayTake part db f (change.Rows rel remove add) m → old ≡ Some m → 1 ≤ used → used < 2 ^ 32 → KeepsOthers file.file old known
     → ((rows : List Row) → set_on (reader file.domains) file.used (pages_of m file.file) ≡ Some rows → rows_differ remove ≡ true → All (λ row. IsTrue (has rows row)) remove → rows_differ add ≡ true
-    → list_any (has rows) add ≡ false → HasSet file.domains file.file used (with_rows add (without_rows remove rows)) told)
-    → HasMade (change.Rows rel remove add) db f file.file used m told
+    → list_any (has rows) add ≡ false → HasSet file.domains file.file used (with_rows add (without_rows remove rows)) known)
+    → HasMade (change.Rows rel remove add) db f file.file used m known
 unfolding Suits MakesPages
-rows_made part db f rel remove add file m old told used here its may is some few others changed =
+rows_made part db f rel remove add file m old known used here its may is some few others changed =
     let s = standing part db f rel remove add file m here its may in
     let made = changed s.at.r.rows s.set s.go.differ s.go.there s.go.new_differ s.go.new in
     let kept = others.each m is in
-    let same : kept.0 ≡ made.image = same_Some kept.0 made.image (sym kept.1 ∙ made.told_still) in
+    let same : kept.0 ≡ made.image = same_Some kept.0 made.image (sym kept.1 ∙ made.still_known) in
     record {
       image = made.image;
-      told_still = made.told_still;
+      still_known = made.still_known;
       suits = (its.number, used_small used some few);
       makes = all_of (λ r. same_key r.info.key rel ≡ true → IsMade file.file used r.info.attrs (with_rows add (without_rows remove r.rows)) m made.image) db.relations (λ r at e.
           subst (λ (r : Relation). IsMade file.file used r.info.attrs (with_rows add (without_rows remove r.rows)) m made.image) (sym (s.alone r at e))
@@ -275,15 +275,15 @@ few_rows info rows its = let le = at_most (length rows) its.few in omega (arith,
     at_most : (n : ℕ) → nat_le n most_rows ≡ true → n ≤ 100000
     at_most n h = grind (arith, nat_tests)
 
-pub relation_made : (db : Db) (f : Files) (info : RelInfo) (rows : List Row) (file : RelFile) (number : ℕ) (m : Image) (old told : Option Image) (used : ℕ) → IsFree f number → IsFileWith info number 0 file
-    → old ≡ Some m → 1 ≤ used → used < 2 ^ 32 → KeepsOthers file.file old told → HasSet file.domains file.file used (set_of rows) told → HasMade (change.Create info rows) db f number used m told
+pub relation_made : (db : Db) (f : Files) (info : RelInfo) (rows : List Row) (file : RelFile) (number : ℕ) (m : Image) (old known : Option Image) (used : ℕ) → IsFree f number → IsFileWith info number 0 file
+    → old ≡ Some m → 1 ≤ used → used < 2 ^ 32 → KeepsOthers file.file old known → HasSet file.domains file.file used (set_of rows) known → HasMade (change.Create info rows) db f number used m known
 unfolding Suits MakesPages
-relation_made db f info rows file number m old told used free its is some few others made =
+relation_made db f info rows file number m old known used free its is some few others made =
     let kept = others.each m is in
-    let same : kept.0 ≡ made.image = same_Some kept.0 made.image (sym kept.1 ∙ made.told_still) in
+    let same : kept.0 ≡ made.image = same_Some kept.0 made.image (sym kept.1 ∙ made.still_known) in
     record {
       image = made.image;
-      told_still = made.told_still;
+      still_known = made.still_known;
       suits = (free, used_small used some few);
       makes = subst (λ (n : ℕ). IsMade n used info.attrs (set_of rows) m made.image) its.number
           (record { domains = file.domains; read = its.domains; are = made.are; elsewhere = subst (SameElsewhere file.file m) same kept.2 });
@@ -318,5 +318,5 @@ puts_none (change.Rule rel rule) one other = tt
 puts_none (change.DropPermits rel numbers) one other = tt
 puts_none (change.DropRules rel numbers) one other = tt
 
-pub nothing_made : (made : DbChange) (db : Db) (f : Files) (file used : ℕ) (m : Image) (told : Option Image) → PutsNoRows made → Suits made f file used → told ≡ Some m → HasMade made db f file used m told
-nothing_made made db f file used m told puts suits is = record { image = m; told_still = is; suits = suits; makes = puts_same made db file used m puts }
+pub nothing_made : (made : DbChange) (db : Db) (f : Files) (file used : ℕ) (m : Image) (known : Option Image) → PutsNoRows made → Suits made f file used → known ≡ Some m → HasMade made db f file used m known
+nothing_made made db f file used m known puts suits is = record { image = m; still_known = is; suits = suits; makes = puts_same made db file used m puts }

@@ -1,4 +1,4 @@
--- What the pages of the catalogues spell when a change was laid, or another file was said.
+-- What the pages of the catalogues spell when a change was applied, or another file was said.
 use Rattle.std.proofs.Common.{◌≡◌, refl, sym, ap, subst, ◌∙◌, ℕ, ◌&&◌, nat_le, Bool, true, false, [], ◌∷◌, map, not, Option, Some, Result, Ok, Err, OnOk}
 use Rattle.std.specs.Prelude.{is_some}
 use Rattle.std.proofs.lemmas.Option.{same_Some}
@@ -10,13 +10,13 @@ use Rattle.calculus.specs.declared.schema.RelInfo.{RelInfo}
 use Rattle.calculus.specs.Database.{Db, Relation, entry_at, is_relation, is_there}
 use Rattle.calculus.specs.declared.schema.Spec.{Spec}
 use Rattle.calculus.specs.declared.schema.Spec.TheVariants.{Heap, Hash, Isam, View, Index}
-use Rattle.calculus.specs.IsDatabase.{IsDatabase, keys_stand, structure_stands}
+use Rattle.calculus.specs.IsDatabase.{IsDatabase, keys_stand, valid_structure}
 use Rattle.calculus.specs.Lists.{is_any}
 use Rattle.calculus.specs.Keys.{same_key}
 use Rattle.calculus.specs.Structures.{is_keyed, is_structure}
 use Rattle.disk_model.specs.Disk.{Image}
 use Rattle.disk_model.specs.declared.disk.Addr.{Addr}
-use Rattle.access_traits.specs.Causes.{IsAtFault}
+use Rattle.am_traits.specs.Causes.{IsAtFault}
 use Rattle.calculus.specs.declared.schema.RelFile.{RelFile}
 use Rattle.page_chain.specs.Pages.{pages_of}
 use Rattle.plain_base.specs.Shown.{database_of}
@@ -101,17 +101,17 @@ module _ (c : Catalog) (m : Image) (spells : Spells c m) where
         record { changes = λ places. (prints (files_of now.files) are places).changes; stands = λ places. (prints (files_of now.files) are places).stands }
 
     -- and then the pages spell what is known
-    pub change_spelled : {T E : Type 0} (r : Result T E) (now : Catalog) (old told : Option Image) → old ≡ Some m → OnOk r (HavePlaces (coming_of made (files_of c.files) file used (database_of c.plain)))
+    pub change_spelled : {T E : Type 0} (r : Result T E) (now : Catalog) (old known : Option Image) → old ≡ Some m → OnOk r (HavePlaces (coming_of made (files_of c.files) file used (database_of c.plain)))
         → OnOk r ((n : Image) (cat : Catalogue) → old ≡ Some n → AreEnds n c.ends → catalogue_in (pages_of n) ≡ Some cat → IndexBases c.files (database_of c.plain) → IsPrepared made (files_of c.files) file used (database_of c.plain) cat
-        → Written n told now.ends (changed (going_of made (files_of c.files) file used (database_of c.plain)) (coming_of made (files_of c.files) file used (database_of c.plain)) cat))
-        → OnOk r (IsKept c now made file used) → OnOk r (SpellsAfter now m told)
-    change_spelled (Err e) now old told is places writes kept = tt
-    change_spelled (Ok x) now old told is places writes kept =
+        → Written n known now.ends (changed (going_of made (files_of c.files) file used (database_of c.plain)) (coming_of made (files_of c.files) file used (database_of c.plain)) cat))
+        → OnOk r (IsKept c now made file used) → OnOk r (SpellsAfter now m known)
+    change_spelled (Err e) now old known is places writes kept = tt
+    change_spelled (Ok x) now old known is places writes kept =
         let written = writes m (printed (database_of c.plain) (files_of c.files)) is spells.ends spells.catalogue spells.bases (spelled_prepared now kept) in
         let its = prints (files_of now.files) (kept_after (database_of c.plain) c.files now.files file used c.plain.is spells.bases made lawful suits kept.places) places in
         record {
           image = written.image;
-          told_still = written.told_still;
+          still_known = written.still_known;
           spells = record {
             catalogue = written.holds ∙ ap Some (its.is ∙ ap (λ (d : Db). printed d (files_of now.files)) (sym kept.plain));
             ends = written.ends_there;
@@ -136,7 +136,7 @@ relation_info db r key info is at same there =
     ∙ ap (entry_at db) (same_key_is r.info.key key same) ∙ there)
 
 -- what stands as a base relation has its structure
-relation_structure : (info : RelInfo) → structure_stands info ≡ true → is_structure info.spec ≡ true
+relation_structure : (info : RelInfo) → valid_structure info ≡ true → is_structure info.spec ≡ true
 relation_structure info h = go info.spec h
   where
     go : (s : Spec) → (elim (is_keyed s) as (λ (b : Bool). Bool) [ true ↦ is_any info.keys && keys_stand info.attrs info.keys | false ↦ is_structure s && not (is_any info.keys) ]) ≡ true → is_structure s ≡ true
@@ -161,7 +161,7 @@ module _ (c : Catalog) (m : Image) (spells : Spells c m) (key : RelKey) (its : R
       go : (b : Bool) → same_key r.info.key key ≡ b → is_used ((files_of now).used r.info.key)
       go true same =
           let info : r.info ≡ may.info = relation_info (database_of c.plain) r key may.info c.plain.is at same may.there in
-          let structure : is_structure may.info.spec ≡ true = ap (λ (i : RelInfo). is_structure i.spec) (sym info) ∙ relation_structure r.info (of_tests (λ (r : Relation). structure_stands r.info) (database_of c.plain).relations r c.plain.is.structures_stand at) in
+          let structure : is_structure may.info.spec ≡ true = ap (λ (i : RelInfo). is_structure i.spec) (sym info) ∙ relation_structure r.info (of_tests (λ (r : Relation). valid_structure r.info) (database_of c.plain).relations r c.plain.is.structures_stand at) in
           ap (λ (f : Files). nat_le 1 (f.used r.info.key) && is_number32 (f.used r.info.key)) said
           ∙ ap (λ (n : ℕ). nat_le 1 n && is_number32 n) (file_here key its.file its.used (files_of c.files) r.info.key same).1
           ∙ may.some structure
@@ -201,14 +201,14 @@ module _ (c : Catalog) (m : Image) (spells : Spells c m) (key : RelKey) (its : R
       (is_read c m spells).are_parts places))
 
   -- and then the pages spell what is known
-  pub set_spelled : (after : Catalog) (told : Option Image) → database_of after.plain ≡ database_of c.plain → after.files ≡ now
-      → Written m told after.ends (changed (rows_of (files_of c.files) (destroyed (key ∷ []) (database_of c.plain))) (rows_of (files_of now) (destroyed (key ∷ []) (database_of c.plain)))
+  pub set_spelled : (after : Catalog) (known : Option Image) → database_of after.plain ≡ database_of c.plain → after.files ≡ now
+      → Written m known after.ends (changed (rows_of (files_of c.files) (destroyed (key ∷ []) (database_of c.plain))) (rows_of (files_of now) (destroyed (key ∷ []) (database_of c.plain)))
       (printed (database_of c.plain) (files_of c.files)))
-      → SpellsAfter after m told
+      → SpellsAfter after m known
   unfolding going_now coming_now
-  set_spelled after told same files written = record {
+  set_spelled after known same files written = record {
     image = written.image;
-    told_still = written.told_still;
+    still_known = written.still_known;
     spells = record {
       catalogue = written.holds ∙ ap Some (sym renumbers ∙ (λ i. printed (sym same i) (files_of (sym files i))));
       ends = written.ends_there;

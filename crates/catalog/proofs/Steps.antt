@@ -1,7 +1,7 @@
--- The steps by which a change is laid.
+-- The steps by which a change is applied.
 use Rattle.std.proofs.Common.{◌≡◌, refl, sym, ap, subst, ◌∙◌, ℕ, Bool, true, false, List, [], ◌∷◌, map, Option, Some}
 use Rattle.std.specs.Prelude.{OnOk, Result, Ok, Err}
-use Rattle.access_traits.specs.Causes.{IsAtFault}
+use Rattle.am_traits.specs.Causes.{IsAtFault}
 use Rattle.calculus.specs.declared.query.RelKey.{RelKey}
 use Rattle.calculus.specs.declared.change.DbChange.{DbChange}
 use Rattle.calculus.specs.declared.change.DbChange.TheVariants as change
@@ -39,23 +39,23 @@ pub knows_same : (c : Catalog) (p : DbPlain) (m : Image) (db : Db) → database_
 knows_same c p m db e knows = record { plain = e ∙ knows.plain; catalogue = knows.catalogue; has = knows.has; ends = knows.ends; owners = knows.owners; bases = knows.bases }
 
 -- what is known when all steps are done
-pub write_knows : {T E : Type 0} (r : Result T E) (c : Catalog) (p : DbPlain) (now : Catalog) (m : Image) (db : Db) (made : DbChange) (file used : ℕ) (mid told : Option Image)
+pub write_knows : {T E : Type 0} (r : Result T E) (c : Catalog) (p : DbPlain) (now : Catalog) (m : Image) (db : Db) (made : DbChange) (file used : ℕ) (mid known : Option Image)
     → database_of p ≡ database_of c.plain → IsDatabase db → Knows c m db → IsLawful db made → knows_rows made (is_in c.loaded) ≡ true
     → (MayTake (database_of c.plain) db (files_of c.files) made m → HasMade made db (files_of c.files) file used m mid)
     → OnOk r (HavePlaces (coming_of made (files_of c.files) file used (database_of p)))
     → OnOk r ((n : Image) (cat : Catalogue) → mid ≡ Some n → AreEnds n c.ends → catalogue_in (pages_of n) ≡ Some cat → IndexBases c.files (database_of p) → IsPrepared made (files_of c.files) file used (database_of p) cat
-    → Written n told now.ends (changed (going_of made (files_of c.files) file used (database_of p)) (coming_of made (files_of c.files) file used (database_of p)) cat))
-    → OnOk r (IsKept (record c { plain = p }) now made file used) → OnOk r (KnowsAfter now m told db made)
-write_knows (Err e) c p now m db made file used mid told same is knows lawful read makes places writes kept = tt
-write_knows (Ok x) c p now m db made file used mid told same is knows lawful read makes places writes kept =
+    → Written n known now.ends (changed (going_of made (files_of c.files) file used (database_of p)) (coming_of made (files_of c.files) file used (database_of p)) cat))
+    → OnOk r (IsKept (record c { plain = p }) now made file used) → OnOk r (KnowsAfter now m known db made)
+write_knows (Err e) c p now m db made file used mid known same is knows lawful read makes places writes kept = tt
+write_knows (Ok x) c p now m db made file used mid known same is knows lawful read makes places writes kept =
     let its = makes (may_take c m db made is knows lawful) in
     let cat = printed db (files_of c.files) in
-    let written = writes its.image cat its.told_still (ends_there c m db made is knows lawful file used mid its) (catalogue_there c m db made is knows lawful file used mid its)
+    let written = writes its.image cat its.still_known (ends_there c m db made is knows lawful file used mid its) (catalogue_there c m db made is knows lawful file used mid its)
     (subst (IndexBases c.files) (sym same) (part_bases c m db knows)) (subst (λ d. IsPrepared made (files_of c.files) file used d cat) (sym same) (prepared c m db made is knows lawful read file used mid its)) in
-    known_then c m db made is knows lawful read file used mid its now told
+    known_then c m db made is knows lawful read file used mid its now known
     (record { plain = kept.plain ∙ ap (λ (d : Db). laid d made) same; loaded = kept.loaded; places = kept.places })
     (subst (λ d. HavePlaces (coming_of made (files_of c.files) file used d)) same places)
-    (subst (λ d. Written its.image told now.ends (changed (going_of made (files_of c.files) file used d) (coming_of made (files_of c.files) file used d) cat)) same written)
+    (subst (λ d. Written its.image known now.ends (changed (going_of made (files_of c.files) file used d) (coming_of made (files_of c.files) file used d) cat)) same written)
 
 -- damage to the pages of a relation
 pub pages_fault : (c : Catalog) (made : DbChange) (old : Option Image) (a : Addr) → IsAtFault old (NoneMayTake (database_of c.plain) (files_of c.files) made) a → IsAtFault old (KnowsNoneFor c made) a
@@ -67,7 +67,7 @@ pub catalogue_fault : (c : Catalog) (made : DbChange) (file used : ℕ) (old mid
     → (a : Addr) → IsAtFault mid (NoCatalogue c.ends) a → IsAtFault old (KnowsNoneFor c made) a
 catalogue_fault c made file used old mid makes a fault m is db base knows lawful =
     let its = makes m db is (may_take c m db made base knows lawful) in
-    fault its.image its.told_still (printed db (files_of c.files)) (catalogue_there c m db made base knows lawful file used mid its) (ends_there c m db made base knows lawful file used mid its)
+    fault its.image its.still_known (printed db (files_of c.files)) (catalogue_there c m db made base knows lawful file used mid its) (ends_there c m db made base knows lawful file used mid its)
 
 -- ---- schemas
 
@@ -133,20 +133,20 @@ lies_still c p m e lies = record {
 }
 
 -- what lies on them when all steps are done
-pub write_lies : {T E : Type 0} (r : Result T E) (c : Catalog) (p : DbPlain) (now : Catalog) (m : Image) (made : DbChange) (file used : ℕ) (mid told : Option Image)
+pub write_lies : {T E : Type 0} (r : Result T E) (c : Catalog) (p : DbPlain) (now : Catalog) (m : Image) (made : DbChange) (file used : ℕ) (mid known : Option Image)
     → database_of p ≡ database_of c.plain → LiesOn c m → IsLawful (database_of c.plain) made → knows_rows made (is_in c.loaded) ≡ true
     → (MayTake (database_of c.plain) (database_of c.plain) (files_of c.files) made m → HasMade made (database_of c.plain) (files_of c.files) file used m mid)
     → OnOk r (HavePlaces (coming_of made (files_of c.files) file used (database_of p)))
     → OnOk r ((n : Image) (cat : Catalogue) → mid ≡ Some n → AreEnds n c.ends → catalogue_in (pages_of n) ≡ Some cat → IndexBases c.files (database_of p) → IsPrepared made (files_of c.files) file used (database_of p) cat
-    → Written n told now.ends (changed (going_of made (files_of c.files) file used (database_of p)) (coming_of made (files_of c.files) file used (database_of p)) cat))
-    → OnOk r (IsKept (record c { plain = p }) now made file used) → OnOk r (LiesAfter now m told)
-write_lies (Err e) c p now m made file used mid told same lies lawful read makes places writes kept = tt
-write_lies (Ok x) c p now m made file used mid told same lies lawful read makes places writes kept =
+    → Written n known now.ends (changed (going_of made (files_of c.files) file used (database_of p)) (coming_of made (files_of c.files) file used (database_of p)) cat))
+    → OnOk r (IsKept (record c { plain = p }) now made file used) → OnOk r (LiesAfter now m known)
+write_lies (Err e) c p now m made file used mid known same lies lawful read makes places writes kept = tt
+write_lies (Ok x) c p now m made file used mid known same lies lawful read makes places writes kept =
     let its = makes (part_may_take c m made lies lawful read) in
     let cat = printed (database_of c.plain) (files_of c.files) in
-    let written = writes its.image cat its.told_still (ends_in_place c m made lies lawful file used mid its) (catalogue_in_place c m made lies lawful file used mid its)
+    let written = writes its.image cat its.still_known (ends_in_place c m made lies lawful file used mid its) (catalogue_in_place c m made lies lawful file used mid its)
     (subst (IndexBases c.files) (sym same) lies.knows.bases) (subst (λ d. IsPrepared made (files_of c.files) file used d cat) (sym same) (part_prepared c m made lies lawful file used mid its read)) in
-    lies_then c m made lies lawful file used mid its read now told
+    lies_then c m made lies lawful file used mid its read now known
     (record { plain = kept.plain ∙ ap (λ (d : Db). laid d made) same; loaded = kept.loaded; places = kept.places })
     (subst (λ d. HavePlaces (coming_of made (files_of c.files) file used d)) same places)
-    (subst (λ d. Written its.image told now.ends (changed (going_of made (files_of c.files) file used d) (coming_of made (files_of c.files) file used d) cat)) same written)
+    (subst (λ d. Written its.image known now.ends (changed (going_of made (files_of c.files) file used d) (coming_of made (files_of c.files) file used d) cat)) same written)

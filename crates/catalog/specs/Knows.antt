@@ -10,7 +10,7 @@ use Rattle.page_chain.specs.Pages.{pages_of}
 use Rattle.plain_base.specs.Shown.{database_of}
 use Rattle.stored_database.specs.Catalogue.{catalogue_in}
 use Rattle.stored_database.specs.Printed.{HasFiles, printed}
-use Rattle.stored_database.specs.Standing.{standing}
+use Rattle.stored_database.specs.Denoting.{denoted}
 use Rattle.catalog_read.specs.Parts.{index_owners_agree}
 use Rattle.catalog_laws.specs.Loaded.{loaded_part}
 use Rattle.catalog_moves.specs.Bases.{IndexBases}
@@ -28,9 +28,9 @@ pub record Knows (c : Catalog) (m : Image) (db : Db) : Type 0 where
   pub owners : index_owners_agree db ≡ true
   pub bases : IndexBases c.files db
 
--- The pages stand for no database of this administrator in which each index has the owner of its relation.
+-- The pages denote no database of this administrator in which each index has the owner of its relation.
 abbrev pub NoDatabase : List ℕ → Image → Addr → Type 0
-NoDatabase dba m a = (db : Db) → standing m ≡ Some db → db.dba ≡ dba → index_owners_agree db ≡ true → ⊥
+NoDatabase dba m a = (db : Db) → denoted m ≡ Some db → db.dba ≡ dba → index_owners_agree db ≡ true → ⊥
 
 -- The same, and this page shows it.
 abbrev pub NoDatabaseAt : List ℕ → Image → Addr → Type 0
@@ -48,9 +48,9 @@ KnowsNoneFor c made m a = (db : Db) → IsDatabase db → Knows c m db → IsLaw
 abbrev pub SameHead : Image → Image → Type 0
 SameHead m n = (b : Addr) → b.file ≡ 0 → n b ≡ m b
 
--- The pages are told still, and the catalogue knows the database after a change on them; those of file 0 are as before.
-pub record KnowsAfter (c : Catalog) (before : Image) (told : Option Image) (db : Db) (made : DbChange) : Type 0 where
+-- The pages are still known, and the catalogue knows the database after a change on them; those of file 0 are as before.
+pub record KnowsAfter (c : Catalog) (before : Image) (known : Option Image) (db : Db) (made : DbChange) : Type 0 where
   pub image : Image
-  pub told_still : told ≡ Some image
+  pub still_known : known ≡ Some image
   pub knows : Knows c image (laid db made)
   pub head : SameHead before image

@@ -1,4 +1,4 @@
--- What of a change is laid already.
+-- What of a change is applied already.
 use Rattle.std.specs.Prelude.{◌≡◌, ℕ, Option, Some}
 use Rattle.calculus.specs.declared.query.RelKey.{RelKey}
 use Rattle.calculus.specs.declared.change.DbChange.{DbChange}
@@ -48,10 +48,10 @@ pub record MayTake (part db : Db) (f : Files) (made : DbChange) (m : Image) : Ty
 abbrev pub NoneMayTake : Db → Files → DbChange → Image → Addr → Type 0
 NoneMayTake part f made m a = (db : Db) → MayTake part db f made m → ⊥
 
--- The pages are told still, and those of relations are as the change asks of the database.
-pub record HasMade (made : DbChange) (db : Db) (f : Files) (file used : ℕ) (before : Image) (told : Option Image) : Type 0 where
+-- The pages are still known, and those of relations are as the change asks of the database.
+pub record HasMade (made : DbChange) (db : Db) (f : Files) (file used : ℕ) (before : Image) (known : Option Image) : Type 0 where
   pub image : Image
-  pub told_still : told ≡ Some image
+  pub still_known : known ≡ Some image
   pub suits : Suits made f file used
   pub makes : MakesPages made db file used before image
 
@@ -93,7 +93,7 @@ pub record IsPrepared (made : DbChange) (f : Files) (file used : ℕ) (db : Db) 
   pub changes : HavePlaces (coming_of made f file used db) → AreChanges (going_of made f file used db) (coming_of made f file used db) cat
   pub stands : HavePlaces (coming_of made f file used db) → IsCatalogue (changed (going_of made f file used db) (coming_of made f file used db) cat)
 
--- A change is laid in memory.
+-- A change is applied in memory.
 pub record IsKept (before now : Catalog) (made : DbChange) (file used : ℕ) : Type 0 where
   pub plain : database_of now.plain ≡ laid (database_of before.plain) made
   pub loaded : (key : RelKey) → is_in now.loaded key ≡ known_after made (is_in before.loaded) key

@@ -14,7 +14,7 @@ use Rattle.catalog_read.specs.Parts.{Parts, index_owners_agree, whole}
 use Rattle.stored_database.specs.Catalogue.{Catalogue, catalogue_in, most_pages}
 use Rattle.stored_database.specs.Printed.{HasFiles, files_in, printed}
 use Rattle.stored_database.specs.Spelled.{spelled}
-use Rattle.stored_database.specs.Standing.{standing}
+use Rattle.stored_database.specs.Denoting.{denoted}
 use Rattle.catalog_moves.specs.Bases.{IndexBases}
 use Rattle.catalog_moves.specs.Files.{files_of, is_in}
 use Rattle.catalog_pages.specs.declared.writing.Ends.{Ends}
@@ -53,9 +53,9 @@ pub record IsMadeOf (dba : List ℕ) (cat : Catalogue) (ends : Ends) (c : Catalo
   pub ends_there : c.ends ≡ ends
   pub bases : (db : Db) (files : ℕ → Pages) → IsDatabase db → HasFiles db files (files_of c.files) → cat.entries ≡ (printed db (files_of c.files)).entries → IndexBases c.files db
 
--- The pages stand for this database of this administrator, in which each index has the owner of its relation.
+-- The pages denote this database of this administrator, in which each index has the owner of its relation.
 pub record HoldsFor (dba : List ℕ) (m : Image) (db : Db) : Type 0 where
-  pub stands : standing m ≡ Some db
+  pub stands : denoted m ≡ Some db
   pub dba_is : db.dba ≡ dba
   pub owners : index_owners_agree db ≡ true
 

@@ -23,10 +23,10 @@ pub record Spells (c : Catalog) (m : Image) : Type 0 where
   pub ends : AreEnds m c.ends
   pub bases : IndexBases c.files (database_of c.plain)
 
--- The pages are told still, and the catalogues spell what is known; pages of other files are as before.
-pub record SpellsAfter (c : Catalog) (before : Image) (told : Option Image) : Type 0 where
+-- The pages are still known, and the catalogues spell what is known; pages of other files are as before.
+pub record SpellsAfter (c : Catalog) (before : Image) (known : Option Image) : Type 0 where
   pub image : Image
-  pub told_still : told ≡ Some image
+  pub still_known : known ≡ Some image
   pub spells : Spells c image
   pub others : SameBesides before image
 
@@ -34,7 +34,7 @@ pub record SpellsAfter (c : Catalog) (before : Image) (told : Option Image) : Ty
 abbrev pub SpellsNone : Catalog → Image → Addr → Type 0
 SpellsNone c m a = Spells c m → ⊥
 
--- A change was laid in memory: what it leaves keeps its file and its pages, and what it makes lies in a file that nothing had.
+-- A change was applied in memory: what it leaves keeps its file and its pages, and what it makes lies in a file that nothing had.
 pub record IsWritten (before now : Catalog) (made : DbChange) : Type 0 where
   pub file : ℕ
   pub used : ℕ

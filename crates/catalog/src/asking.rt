@@ -10,7 +10,7 @@ ghost use Rattle.catalog.specs.Asked.{IsTheFile, has_file};
 
 use crate::catalog::Catalog;
 use crate::files::file_by;
-use access_traits::RelFile;
+use am_traits::RelFile;
 use calculus::{OutOfMemory, RelKey};
 use std::alloc::Global;
 

@@ -2,7 +2,7 @@
 
 ghost use Rattle.std.specs.Prelude.{◌≡◌, ◌<◌, ◌⊎◌, true, None, IfOk};
 ghost use Rattle.std.specs.Option.{ForSome};
-ghost use Rattle.am_traits.specs.Told.{known_at};
+ghost use Rattle.base_trait.specs.Known.{known_at};
 ghost use Rattle.calculus.specs.declared.schema.Spec.TheVariants.{Index};
 ghost use Rattle.calculus.specs.Database.{is_relation};
 ghost use Rattle.calculus.specs.Structures.{is_view};
@@ -13,8 +13,8 @@ ghost use Rattle.catalog_moves.specs.Files.{files_of};
 ghost use Rattle.catalog.specs.Asked.{HasKind, IsFileBy};
 ghost use Rattle.catalog.specs.Filling.{IsFileOf, IsFileWith};
 
-use access_traits::RelFile;
-use am_traits::Base;
+use am_traits::RelFile;
+use base_trait::Base;
 use calculus::{Attr, Domain, Kind, List, OutOfMemory, RelInfo, RelKey, Spec};
 use catalog_moves::FileTable;
 use plain_base::DbPlain;

@@ -1,7 +1,7 @@
 //! The rows of a relation are read.
 
 ghost use Rattle.std.specs.Prelude.{◌≡◌, ◌↔◌, [], true, false, Some, IfOk, OnOk, OnErr, if◌then◌else◌};
-ghost use Rattle.access_traits.specs.Causes.{HasFileCause};
+ghost use Rattle.am_traits.specs.Causes.{HasFileCause};
 ghost use Rattle.calculus.specs.Change.{IsLawful, laid};
 ghost use Rattle.calculus.specs.Database.{Db, is_relation};
 ghost use Rattle.calculus.specs.IsDatabase.{IsDatabase};
@@ -19,8 +19,8 @@ ghost use Rattle.catalog.specs.Filling.{IsFileOf, IsSame, IsTaken};
 use crate::catalog::Catalog;
 use crate::files::relation_file;
 use crate::spots::SpotTable;
-use access_traits::{PageStore, RelFile};
-use am_traits::BaseFault;
+use am_traits::{PageStore, RelFile};
+use base_trait::BaseFault;
 use calculus::{DbChange, List, OutOfMemory, RelKey, Row, TryCopy};
 use change_check::{fit_change, is_relation};
 use plain_base::DbPlain;
@@ -54,8 +54,8 @@ pub(crate) fn is_lawful(
     }
 }
 
-/// Lays a change in memory where it is lawful, and answers whether it is.
-pub(crate) fn lay_lawful(
+/// Applies a change in memory where it is lawful, and answers whether it is.
+pub(crate) fn apply_lawful(
     alloc: Global,
     plain: &mut DbPlain,
     change: &DbChange,
@@ -67,11 +67,11 @@ pub(crate) fn lay_lawful(
     if !is_lawful(alloc, plain, change)? {
         return Ok(false);
     }
-    plain.lay(alloc, change)?;
+    plain.apply_change(alloc, change)?;
     Ok(true)
 }
 
-/// Lays in memory that rows come to a relation, where that is lawful, and answers whether it is.
+/// Applies in memory that rows come to a relation, where that is lawful, and answers whether it is.
 fn put_rows(
     alloc: Global,
     plain: &mut DbPlain,
@@ -83,7 +83,7 @@ fn put_rows(
     ensures err { OnErr result (database_of plain.new ≡ database_of plain.old) }
 {
     let change = coming(alloc, key, rows)?;
-    lay_lawful(alloc, plain, &change)
+    apply_lawful(alloc, plain, &change)
 }
 
 /// Whether a base relation stands under a key.

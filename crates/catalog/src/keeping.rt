@@ -1,4 +1,4 @@
-//! A change is laid in memory.
+//! A change is applied in memory.
 
 ghost use Rattle.std.specs.Prelude.{◌≡◌, OnOk};
 ghost use Rattle.calculus.specs.Change.{IsLawful};
@@ -141,7 +141,7 @@ fn keep_files(
 }
 
 impl Catalog {
-    /// Lays a lawful change in memory, where what it makes or changes lies there.
+    /// Applies a lawful change in memory, where what it makes or changes lies there.
     pub(crate) fn keep(
         &mut self,
         alloc: Global,
@@ -153,6 +153,6 @@ impl Catalog {
     {
         keep_files(alloc, &mut self.files, change, given)?;
         keep_loaded(alloc, &mut self.loaded, change)?;
-        self.plain.lay(alloc, change)
+        self.plain.apply_change(alloc, change)
     }
 }

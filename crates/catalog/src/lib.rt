@@ -1,12 +1,12 @@
 //! The catalogue of a database on disk, in memory.
 #![tactic(auto)]
 
+mod applying;
 mod asking;
 mod catalog;
 mod files;
 mod filling;
 mod keeping;
-mod laying;
 mod loading;
 mod lying;
 mod placing;

@@ -2,7 +2,7 @@
 
 ghost use Rattle.std.specs.Prelude.{◌≡◌, ◌+◌, ℕ, List as Items, length, true, None, Some, IfOk};
 ghost use Rattle.std.specs.Option.{ForSome};
-ghost use Rattle.access_traits.specs.Causes.{HasFileCause};
+ghost use Rattle.am_traits.specs.Causes.{HasFileCause};
 ghost use Rattle.calculus.specs.Database.{Db};
 ghost use Rattle.calculus.specs.Schema.{schema_of};
 ghost use Rattle.disk_model.specs.Disk.{Image, RisesUpTo};
@@ -11,7 +11,7 @@ ghost use Rattle.page_chain.specs.Found.{Found};
 ghost use Rattle.page_chain.specs.Pages.{Pages, pages_of};
 ghost use Rattle.plain_base.specs.Shown.{database_of};
 ghost use Rattle.catalog_read.specs.Parts.{index_owners_agree};
-ghost use Rattle.stored_database.specs.Standing.{standing};
+ghost use Rattle.stored_database.specs.Denoting.{denoted};
 ghost use Rattle.catalog.specs.Knows.{Knows, NoDatabaseAt};
 ghost use Rattle.catalog.specs.Lies.{LiesOn};
 ghost use Rattle.stored_database.specs.Catalogue.{IsCatalogue, most_pages};
@@ -21,8 +21,8 @@ ghost use Rattle.catalog.specs.Reads.{HasChains};
 ghost use Rattle.catalog.specs.Loading.{AreFound, HoldsFor, IfKnown, IsMadeOf, IsOfParts, NoCatalogueIn, SpellsNone};
 
 use crate::catalog::Catalog;
-use access_traits::PageStore;
-use am_traits::BaseFault;
+use am_traits::PageStore;
+use base_trait::BaseFault;
 use calculus::{Name, OutOfMemory};
 use catalog_moves::{FileTable, KeySet};
 use catalog_pages::Ends;
@@ -169,7 +169,7 @@ pub(crate) fn made(
 impl Catalog {
     /// Reads the catalogues, each page once.
     pub fn load<S: PageStore>(alloc: Global, store: &mut S, dba: Name) -> Result<Catalog, BaseFault>
-        ensures knows { (m : Image) (db : Db) → S.pages store.old ≡ Some m → standing m ≡ Some db → db.dba ≡ dba
+        ensures knows { (m : Image) (db : Db) → S.pages store.old ≡ Some m → denoted m ≡ Some db → db.dba ≡ dba
             → index_owners_agree db ≡ true → IfOk result (λ c. Knows c m db) }
         ensures lies { (m : Image) → S.pages store.old ≡ Some m → IfOk result (λ c. LiesOn c m) }
         ensures dba { IfOk result (λ c. (database_of c.plain).dba ≡ dba) }

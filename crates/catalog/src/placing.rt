@@ -1,7 +1,7 @@
 //! Where what a change makes or changes lies, and the pages of relations that it changes or makes.
 
 ghost use Rattle.std.specs.Prelude.{◌≡◌, ◌^◌, ◌<◌, Some, IfOk};
-ghost use Rattle.access_traits.specs.Causes.{HasFileCause};
+ghost use Rattle.am_traits.specs.Causes.{HasFileCause};
 ghost use Rattle.calculus.specs.Change.{IsLawful};
 ghost use Rattle.calculus.specs.Database.{Db};
 ghost use Rattle.calculus.specs.declared.change.DbChange.TheVariants.{Rows, Create};
@@ -13,8 +13,8 @@ ghost use Rattle.catalog_laws.specs.Placed.{IsFree, Suits};
 
 use crate::files::{file_with, relation_file};
 use crate::spots::SpotTable;
-use access_traits::PageStore;
-use am_traits::BaseFault;
+use am_traits::PageStore;
+use base_trait::BaseFault;
 use calculus::{DbChange, OutOfMemory, RelInfo, RelKey, Row};
 use catalog_moves::FileTable;
 use plain_base::DbPlain;

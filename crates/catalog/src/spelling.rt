@@ -1,7 +1,7 @@
-//! A change is laid in memory and on the pages of the catalogues alone, and another file is said.
+//! A change is applied in memory and on the pages of the catalogues alone, and another file is said.
 
 ghost use Rattle.std.specs.Prelude.{◌≡◌, Some, OnOk, IsOk, true, false};
-ghost use Rattle.access_traits.specs.Causes.{HasFileCause};
+ghost use Rattle.am_traits.specs.Causes.{HasFileCause};
 ghost use Rattle.calculus.specs.Change.{IsLawful};
 ghost use Rattle.disk_model.specs.Disk.{Image};
 ghost use Rattle.plain_base.specs.Shown.{database_of};
@@ -11,18 +11,18 @@ ghost use Rattle.catalog_laws.specs.Loaded.{knows_rows};
 ghost use Rattle.catalog.specs.Asked.{MayBeFile};
 ghost use Rattle.catalog.specs.Spelling.{IsSet, IsWritten, Spells, SpellsAfter, SpellsNone};
 
+use crate::applying::rows_are_known;
 use crate::catalog::Catalog;
-use crate::laying::rows_are_known;
 use crate::placing::place_of;
-use access_traits::{PageStore, RelFile};
-use am_traits::BaseFault;
+use am_traits::{PageStore, RelFile};
+use base_trait::BaseFault;
 use calculus::{DbChange, RelKey};
 use catalog_moves::renumber;
 use catalog_pages::write_moves;
 use std::alloc::Global;
 
 impl Catalog {
-    /// Lays a change in memory and on the pages of the catalogues; those of relations are the caller's.
+    /// Applies a change in memory and on the pages of the catalogues; those of relations are the caller's.
     /// It has to be lawful for what is known in memory; of rows that weren't read nothing is asked, and a
     /// change of these alone changes nothing here, since no page of a catalogue tells rows. What is there
     /// keeps its file and the number of its pages; a relation that is made has one page of a file that

@@ -4,7 +4,7 @@ use Rattle.std.proofs.lemmas.Bool.{eq-eqb, ltb-true}
 use Rattle.byteorder.specs.Endian.{little_bytes}
 use Rattle.byteorder.specs.Numbers.{little_number-reads_back}
 use Rattle.calculus.specs.Value.{row_cmp}
-use Rattle.access_traits.specs.Placed.{rows_of}
+use Rattle.am_traits.specs.Placed.{rows_of}
 use Rattle.page_cells.specs.Page.{IsPage, next_page, slots}
 use Rattle.page_chain.specs.Chains.{numbers_from}
 use Rattle.page_chain.specs.Lists.{◌>>=◌, each, once}

@@ -16,7 +16,7 @@ use Rattle.stored_database.specs.Printed.{Files, MayHave, printed, parts_for, tr
 use Rattle.stored_database.proofs.Members.{IsIn, of_all, tests_of, filter_in, in_either}
 use Rattle.stored_database.proofs.Orders.{part_total}
 use Rattle.stored_database.proofs.PrintedStands.{is_a_catalogue, may_have}
-use Rattle.stored_database.proofs.PrintedTrees.{told_trees, trees_for, parts_are}
+use Rattle.stored_database.proofs.PrintedTrees.{grouped_trees, trees_for, parts_are}
 use Rattle.stored_database.proofs.Groups.{groups_apart}
 use Rattle.stored_database.proofs.Reading.{both}
 use Rattle.stored_database.proofs.Sets.{in_in_order, in_order_in}
@@ -43,7 +43,7 @@ place_short p e =
 part_in_set : (f : Files) (db : Db) (p : Part) → Stands f db → IsIn p (parts_for f db) → IsIn p (in_order part_cmp (parts_for f db))
 part_in_set f db p stands at =
     in_in_order part_cmp (parts_for f db) p
-    (exact_of part_total (parts_for f db) (subst (IsApart part_cmp) (sym (parts_are f db)) (groups_apart told_trees (trees_for f db) (trees_are_apart f db stands)))) at
+    (exact_of part_total (parts_for f db) (subst (IsApart part_cmp) (sym (parts_are f db)) (groups_apart grouped_trees (trees_for f db) (trees_are_apart f db stands)))) at
 
 -- where what came has short places and what was there had, all have
 pub short_after : (going coming cat : Catalogue) (f : Files) (db : Db) → Stands f db → printed db f ≡ changed going coming cat → AllByRecursion (λ p. is_part p ≡ true) cat.parts → HavePlaces coming

@@ -11,14 +11,14 @@ use Rattle.calculus.specs.Lists.{is_any, differ_by}
 use Rattle.calculus.specs.Keys.{same_key, key_cmp}
 use Rattle.calculus.specs.Limits.{most_entries, most_expanded_variables, greatest_size, most_rows, most_rules, most_permits}
 use Rattle.calculus.specs.Database.{Db, Relation, Index, View, rules_on, permits_on}
-use Rattle.calculus.specs.IsDatabase.{IsDatabase, key_is_named, structure_stands, attrs_stand, are_stored, relation_rows_fit, keys_stand, index_stands}
+use Rattle.calculus.specs.IsDatabase.{IsDatabase, key_is_named, valid_structure, attrs_stand, are_stored, relation_rows_fit, keys_stand, valid_index}
 use Rattle.calculus.specs.Schema.{bare, schema_of}
 use Rattle.calculus.proofs.Sets.{Ascends-nil}
 use Rattle.plan_laws.proofs.Kept.{both, each}
 use Rattle.schema_laws.proofs.Alike.{is_relation_alike, entries_alike, attrs_alike}
 use Rattle.schema_laws.proofs.Through.{level_alike}
-use Rattle.schema_laws.proofs.Told.{size_alike, expanded_alike}
-use Rattle.schema_laws.proofs.SchemaStands.{query_stands_alike, vars_there_alike, row_qual_alike, permit_alike, schema_is_database}
+use Rattle.schema_laws.proofs.Known.{size_alike, expanded_alike}
+use Rattle.schema_laws.proofs.SchemaStands.{valid_query_alike, vars_there_alike, row_qual_alike, permit_alike, schema_is_database}
 use Rattle.catalog_laws.specs.Loaded.{loaded_part}
 use Rattle.catalog_laws.proofs.Part.{part, part_if, has_schema}
 
@@ -31,7 +31,7 @@ keys_bare : (relations : List Relation) → map (λ (r : Relation). r.info.key) 
 keys_bare [] = refl
 keys_bare (r ∷ relations) = ap (λ ks. r.info.key ∷ ks) (keys_bare relations)
 
-index_alike : (db : Db) (x : Index) → index_stands (schema_of db) x ≡ index_stands db x
+index_alike : (db : Db) (x : Index) → valid_index (schema_of db) x ≡ valid_index db x
 index_alike db x = λ i.
     is_index x.info.spec && (is_relation_alike db x.base i && (not (is_any x.info.attrs) && (is_any x.info.keys && keys_stand (attrs_alike db x.base i) x.info.keys)))
 
@@ -52,7 +52,7 @@ by_its_schema db is ascend fit few = record {
   rules_ascend = is.rules_ascend;
   permits_ascend = is.permits_ascend;
   keys_differ = along (ap (λ (es : List RelInfo). differ_by same_key (map (λ i. i.key) es)) (entries_alike db)) is.keys_differ;
-  structures_stand = along (all_bare structure_stands db.relations) is.structures_stand;
+  structures_stand = along (all_bare valid_structure db.relations) is.structures_stand;
   relation_attrs_stand = along (all_bare (λ i. attrs_stand i.attrs) db.relations) is.relation_attrs_stand;
   relations_are_stored = along (all_bare (λ i. are_stored i.attrs) db.relations) is.relations_are_stored;
   rows_ascend = ascend;
@@ -63,7 +63,7 @@ by_its_schema db is ascend fit few = record {
   view_attrs_are_targets = is.view_attrs_are_targets;
   views_name_what_is_there = along (λ i. list_all (λ (v : View). vars_there_alike db v.query i) db.views) is.views_name_what_is_there;
   views_have_levels = along (λ i. list_all (λ (v : View). is_some (level_alike db v.info.key i)) db.views) is.views_have_levels;
-  view_queries_stand = along (λ i. list_all (λ (v : View). query_stands_alike db v.query i) db.views) is.view_queries_stand;
+  view_queries_stand = along (λ i. list_all (λ (v : View). valid_query_alike db v.query i) db.views) is.view_queries_stand;
   rules_stand = along (λ i. list_all (λ p. is_relation_alike db p.0 i && row_qual_alike db p.0 p.1.qual i) db.rules) is.rules_stand;
   permits_stand = along (λ i. list_all (λ p. permit_alike db p.0 p.1 i) db.permits) is.permits_stand;
   few_entries = along (ap (λ (es : List RelInfo). nat_le (length es) most_entries) (entries_alike db)) is.few_entries;

@@ -13,11 +13,11 @@ use Rattle.calculus.specs.declared.schema.RelInfo.{RelInfo}
 use Rattle.calculus.specs.declared.schema.Spec.{Spec}
 use Rattle.calculus.specs.declared.schema.Spec.TheVariants.{Heap, Hash, Isam, View as ViewSpec, Index as IndexSpec}
 use Rattle.calculus.specs.Database.{Db, Relation, View, Index, entries, entry_at, is_relation}
-use Rattle.calculus.specs.IsDatabase.{IsDatabase, structure_stands, view_info_stands, index_stands}
+use Rattle.calculus.specs.IsDatabase.{IsDatabase, valid_structure, valid_view_info, valid_index}
 use Rattle.calculus.specs.Keys.{same_key, key_cmp, has_key}
 use Rattle.calculus.specs.Lists.{is_any}
 use Rattle.calculus.specs.Structures.{is_view, is_index, is_keyed, is_structure}
-use Rattle.am_traits.specs.Told.{known_at}
+use Rattle.base_trait.specs.Known.{known_at}
 use Rattle.stored_database.specs.Moves.{destroyed}
 use Rattle.stored_database.proofs.Staying.{base_is}
 use Rattle.stored_database.specs.Columns.{column_bytes}
@@ -229,13 +229,13 @@ module _ (db : Db) (is : IsDatabase db) (table : FileTable) (b : IndexBases tabl
     -- ---- each sort
 
     view_kind : (v : View) → IsIn v db.views → is_view v.info.spec ≡ true
-    view_kind v at = (both (is_view v.info.spec) _ (of_tests (λ (v : View). view_info_stands v.info) db.views v is.view_infos_stand at)).0
+    view_kind v at = (both (is_view v.info.spec) _ (of_tests (λ (v : View). valid_view_info v.info) db.views v is.view_infos_stand at)).0
 
     index_kind : (x : Index) → IsIn x db.indexes → is_index x.info.spec ≡ true
-    index_kind x at = (both (is_index x.info.spec) _ (of_tests (index_stands db) db.indexes x is.indexes_stand at)).0
+    index_kind x at = (both (is_index x.info.spec) _ (of_tests (valid_index db) db.indexes x is.indexes_stand at)).0
 
     relation_kind : (r : Relation) → IsIn r db.relations → is_sort sort.Relation r.info.spec ≡ true
-    relation_kind r at = has_structure r.info.spec _ _ (of_tests (λ (r : Relation). structure_stands r.info) db.relations r is.structures_stand at)
+    relation_kind r at = has_structure r.info.spec _ _ (of_tests (λ (r : Relation). valid_structure r.info) db.relations r is.structures_stand at)
 
     relation_back : (i : RelInfo) → IsIn i (entries db) → is_sort sort.Relation i.spec ≡ true → (r : Relation) × IsIn r db.relations × (i ≡ r.info)
     relation_back i at h = go (in_either (map (λ (r : Relation). r.info) db.relations) _ i at)

@@ -16,7 +16,7 @@ use Rattle.calculus.specs.declared.schema.Rule.{Rule}
 use Rattle.calculus.specs.Database.{Db, Relation, View, entries, view_at, is_relation}
 use Rattle.calculus.specs.IsDatabase.{IsDatabase}
 use Rattle.calculus.specs.Keys.{same_key, key_cmp, numbered_cmp, has_key}
-use Rattle.am_traits.specs.Told.{query_at}
+use Rattle.base_trait.specs.Known.{query_at}
 use Rattle.stored_database.specs.Moves.{destroyed}
 use Rattle.quel_tree.specs.Permits.{rule, permit}
 use Rattle.quel_tree.specs.Queries.{query}

@@ -6,7 +6,7 @@ use Rattle.calculus.specs.declared.schema.RelInfo.{RelInfo}
 use Rattle.calculus.specs.Catalogue.{catalogue_at}
 use Rattle.calculus.specs.Database.{Db, Relation, relation_at, entry_at}
 use Rattle.calculus.specs.Keys.{same_key}
-use Rattle.am_traits.specs.Told.{known_at}
+use Rattle.base_trait.specs.Known.{known_at}
 
 -- what is found in front is found
 pub find_front : {X : Type 0} (test : X → Bool) (xs ys : List X) (x : X) → find test xs ≡ Some x → find test (xs ++ ys) ≡ Some x

@@ -14,7 +14,7 @@ use Rattle.calculus.specs.declared.schema.RelInfo.{RelInfo}
 use Rattle.calculus.specs.Database.{Db, Relation, Index, View, entries, entry_at, is_relation}
 use Rattle.calculus.specs.IsDatabase.{IsDatabase}
 use Rattle.calculus.specs.Keys.{same_key, key_cmp}
-use Rattle.am_traits.specs.Told.{known_at}
+use Rattle.base_trait.specs.Known.{known_at}
 use Rattle.stored_database.proofs.Staying.{base_is}
 use Rattle.stored_database.specs.Entries.{Entry, entry_bytes}
 use Rattle.stored_database.specs.Printed.{is_file, index_entry}

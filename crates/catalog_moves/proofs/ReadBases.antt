@@ -6,7 +6,7 @@ use Rattle.std.proofs.lemmas.Cmp.{on_total, tied_itself}
 use Rattle.calculus.specs.declared.query.RelKey.{RelKey}
 use Rattle.calculus.specs.declared.schema.RelInfo.{RelInfo}
 use Rattle.calculus.specs.Database.{Db, Relation, Index, View, entries, is_there, is_relation}
-use Rattle.calculus.specs.IsDatabase.{IsDatabase, attrs_stand, index_stands}
+use Rattle.calculus.specs.IsDatabase.{IsDatabase, attrs_stand, valid_index}
 use Rattle.calculus.specs.Keys.{same_key, key_cmp}
 use Rattle.calculus.specs.Lists.{is_any}
 use Rattle.stored_database.proofs.Staying.{relation_there, view_there, index_there}
@@ -41,7 +41,7 @@ module _ (db : Db) (is : IsDatabase db) where
 
   index_has_none : (x : Index) → IsIn x db.indexes → not (is_any x.info.attrs) ≡ true
   index_has_none x at =
-      let one = both _ _ (of_tests (index_stands db) db.indexes x is.indexes_stand at) in
+      let one = both _ _ (of_tests (valid_index db) db.indexes x is.indexes_stand at) in
       let two = both (is_relation db x.base) _ one.1 in
       (both (not (is_any x.info.attrs)) _ two.1).0
 

@@ -17,7 +17,7 @@ use Rattle.calculus.specs.declared.query.RelKey.{RelKey}
 use Rattle.calculus.specs.declared.schema.Permit.{Permit}
 use Rattle.calculus.specs.declared.schema.Rule.{Rule}
 use Rattle.calculus.specs.Database.{Db, View, view_at, rules_on, permits_on}
-use Rattle.am_traits.specs.Told.{query_at}
+use Rattle.base_trait.specs.Known.{query_at}
 use Rattle.calculus.specs.IsDatabase.{IsDatabase}
 use Rattle.calculus.specs.Keys.{same_key, key_cmp, numbered_cmp}
 use Rattle.quel_tree.specs.Message.{most_tree_levels}

@@ -4,7 +4,7 @@ use Rattle.std.proofs.lemmas.List.{take_all}
 use Rattle.calculus.specs.Database.{Db}
 use Rattle.calculus.specs.declared.query.RelKey.{RelKey}
 use Rattle.calculus.specs.declared.schema.RelInfo.{RelInfo}
-use Rattle.am_traits.specs.Told.{known_at}
+use Rattle.base_trait.specs.Known.{known_at}
 use Rattle.stored_database.specs.Printed.{Files}
 use Rattle.catalog_moves.specs.declared.files.FilePlace.{FilePlace}
 use Rattle.catalog_moves.specs.declared.gone.Sort.{Sort}
@@ -20,11 +20,11 @@ whole_of P xs ds e i over h = whole P xs i (subst (λ l. length l ≤ i) e over)
 
 -- what is known at a place and goes
 pub known_goes : (s : Sort) (rels : List RelKey) (f : Files) (db : Db) (p : FilePlace) (i : RelInfo) → goes rels f p ≡ true → known_at db p.key ≡ Some i → gone_at s rels f db p ≡ cond (is_sort s i.spec) (i ∷ []) []
-known_goes s rels f db p i went told = ap₂ (λ (b : Bool) (o : Option RelInfo). cond b (elim o [ None ↦ [] | Some i ↦ cond (is_sort s i.spec) (i ∷ []) [] ]) []) went told
+known_goes s rels f db p i went known = ap₂ (λ (b : Bool) (o : Option RelInfo). cond b (elim o [ None ↦ [] | Some i ↦ cond (is_sort s i.spec) (i ∷ []) [] ]) []) went known
 
 -- nothing is known there
 pub unknown_goes : (s : Sort) (rels : List RelKey) (f : Files) (db : Db) (p : FilePlace) → goes rels f p ≡ true → known_at db p.key ≡ None → gone_at s rels f db p ≡ []
-unknown_goes s rels f db p went told = ap₂ (λ (b : Bool) (o : Option RelInfo). cond b (elim o [ None ↦ [] | Some i ↦ cond (is_sort s i.spec) (i ∷ []) [] ]) []) went told
+unknown_goes s rels f db p went known = ap₂ (λ (b : Bool) (o : Option RelInfo). cond b (elim o [ None ↦ [] | Some i ↦ cond (is_sort s i.spec) (i ∷ []) [] ]) []) went known
 
 -- what lies there stays
 pub nothing_goes : (s : Sort) (rels : List RelKey) (f : Files) (db : Db) (p : FilePlace) → goes rels f p ≡ false → gone_at s rels f db p ≡ []

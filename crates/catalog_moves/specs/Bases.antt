@@ -4,7 +4,7 @@ use Rattle.std.specs.List.{AllByRecursion, list_all}
 use Rattle.calculus.specs.declared.query.RelKey.{RelKey}
 use Rattle.calculus.specs.Database.{Db, entries, is_there}
 use Rattle.stored_database.specs.ChangeLaws.{FilesDiffer}
-use Rattle.am_traits.specs.Told.{known_at}
+use Rattle.base_trait.specs.Known.{known_at}
 use Rattle.stored_database.specs.Entries.{Entry, entry_bytes}
 use Rattle.stored_database.specs.Printed.{is_file}
 use Rattle.catalog_moves.specs.declared.files.FilePlace.{FilePlace}

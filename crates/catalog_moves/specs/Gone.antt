@@ -7,7 +7,7 @@ use Rattle.calculus.specs.declared.schema.Spec.{Spec}
 use Rattle.calculus.specs.Database.{Db, rules_on, permits_on}
 use Rattle.calculus.specs.Keys.{has_key}
 use Rattle.calculus.specs.Structures.{is_view, is_index}
-use Rattle.am_traits.specs.Told.{known_at, query_at}
+use Rattle.base_trait.specs.Known.{known_at, query_at}
 use Rattle.quel_tree.specs.Permits as spellings
 use Rattle.quel_tree.specs.Queries as queries
 use Rattle.stored_database.specs.Columns.{Column}

@@ -2,12 +2,12 @@
 
 ghost use Rattle.std.specs.Prelude.{◌≡◌, Some, IfOk};
 ghost use Rattle.calculus.specs.Database.{Relation, relation_at, rules_on, permits_on};
-ghost use Rattle.am_traits.specs.Told.{known_at, query_at};
+ghost use Rattle.base_trait.specs.Known.{known_at, query_at};
 ghost use Rattle.plain_base.specs.Shown.{database_of};
 ghost use Rattle.catalog_moves.specs.Files.{files_of};
 
 use crate::files::FileTable;
-use am_traits::Base;
+use base_trait::Base;
 use calculus::{OutOfMemory, Permit, Query, RelInfo, RelKey, Rule};
 use plain_base::DbPlain;
 use std::alloc::Global;
@@ -19,7 +19,7 @@ pub(crate) fn known(
     key: &RelKey,
 ) -> Result<Option<RelInfo>, OutOfMemory>
     ensures same { database_of plain.new ≡ database_of plain.old }
-    ensures told { IfOk result (λ info. info ≡ known_at (database_of plain.old) key.now) }
+    ensures known { IfOk result (λ info. info ≡ known_at (database_of plain.old) key.now) }
 {
     match plain.info(alloc, key) {
         Ok(info) => Ok(info),
@@ -34,7 +34,7 @@ pub(crate) fn query(
     key: &RelKey,
 ) -> Result<Option<Query>, OutOfMemory>
     ensures same { database_of plain.new ≡ database_of plain.old }
-    ensures told { IfOk result (λ query. query ≡ query_at (database_of plain.old) key.now) }
+    ensures known { IfOk result (λ query. query ≡ query_at (database_of plain.old) key.now) }
 {
     match plain.view(alloc, key) {
         Ok(query) => Ok(query),
@@ -49,7 +49,7 @@ pub(crate) fn rules(
     key: &RelKey,
 ) -> Result<Vec<Rule>, OutOfMemory>
     ensures same { database_of plain.new ≡ database_of plain.old }
-    ensures told { IfOk result (λ rules. rules.items ≡ rules_on (database_of plain.old) key.now) }
+    ensures known { IfOk result (λ rules. rules.items ≡ rules_on (database_of plain.old) key.now) }
 {
     match plain.rules(alloc, key) {
         Ok(rules) => Ok(rules),
@@ -64,7 +64,7 @@ pub(crate) fn permits(
     key: &RelKey,
 ) -> Result<Vec<Permit>, OutOfMemory>
     ensures same { database_of plain.new ≡ database_of plain.old }
-    ensures told { IfOk result (λ permits. permits.items ≡ permits_on (database_of plain.old) key.now) }
+    ensures known { IfOk result (λ permits. permits.items ≡ permits_on (database_of plain.old) key.now) }
 {
     match plain.permits(alloc, key) {
         Ok(permits) => Ok(permits),
@@ -80,7 +80,7 @@ pub(crate) fn relation(
     key: &RelKey,
 ) -> Result<RelInfo, OutOfMemory>
     ensures same { database_of plain.new ≡ database_of plain.old }
-    ensures told { (r : Relation) → relation_at (database_of plain.old) key.now ≡ Some r → IfOk result (λ info. info ≡ r.info) }
+    ensures known { (r : Relation) → relation_at (database_of plain.old) key.now ≡ Some r → IfOk result (λ info. info ≡ r.info) }
 {
     match known(alloc, plain, key)? {
         Some(info) => Ok(info),

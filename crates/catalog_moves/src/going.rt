@@ -17,7 +17,7 @@ ghost use Rattle.catalog_moves.specs.Files.{files_of, is_in};
 ghost use Rattle.catalog_moves.specs.Moves.{AreRows, Came, CameParts, FitOnPages, entry_with};
 
 use crate::asked::{known, place};
-use crate::changing::put_relation;
+use crate::changed_relation::put_relation;
 use crate::files::{FilePlace, FileTable};
 use crate::gone::{Sort, put_all_gone};
 use crate::gone_trees::{TreeSort, put_all_trees};

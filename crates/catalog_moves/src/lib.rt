@@ -3,7 +3,7 @@
 #![tactic(auto)]
 
 mod asked;
-mod changing;
+mod changed_relation;
 mod dropping;
 mod files;
 mod going;
@@ -11,7 +11,7 @@ mod gone;
 mod gone_trees;
 mod key_set;
 mod keys;
-mod making;
+mod made_rows;
 mod moving;
 mod renumbering;
 mod rows;

@@ -10,11 +10,11 @@ ghost use Rattle.catalog_moves.specs.Files.{files_of, files_after};
 ghost use Rattle.catalog_moves.specs.Moves.{AreMoves, AreRows, AreShort, HavePlaces};
 
 use crate::asked::place;
-use crate::changing::{put_modified, put_resized};
+use crate::changed_relation::{put_modified, put_resized};
 use crate::dropping::{put_dropped_permits, put_dropped_rules};
 use crate::files::FileTable;
 use crate::going::{put_all_destroyed, put_unmodified};
-use crate::making::{put_created, put_indexed, put_permitted, put_ruled, put_viewed};
+use crate::made_rows::{put_created, put_indexed, put_permitted, put_ruled, put_viewed};
 use crate::rows::{Moves, SomeRows, moves_of};
 use calculus::{DbChange, OutOfMemory};
 use plain_base::DbPlain;

@@ -5,7 +5,7 @@ use Rattle.std.specs.Cmp.{IsTotalOrder}
 use Rattle.std.specs.List.{AllByRecursion}
 use Rattle.std.specs.List.Sorted.{IsPermutation}
 use Rattle.std.specs.declared.cmp.Ordering.{Ordering}
-use Rattle.access_traits.specs.Pages.{SameElsewhere, KeepsOthers}
+use Rattle.am_traits.specs.Pages.{SameElsewhere, KeepsOthers}
 use Rattle.disk_model.specs.Disk.{Image}
 use Rattle.page_chain.specs.Chains.{IsChain, chain, starts, numbers_from}
 use Rattle.page_chain.specs.Grown.{numbers_to}
@@ -26,11 +26,11 @@ use Rattle.catalog_pages.proofs.Listed.{on_pages, all_lie, lists_after}
 -- ---- one file is written
 
 -- without rows nothing is done
-pub rewritten_nothing : (file last : ℕ) (going coming : List (List ℕ)) (before : Image) (told : Option Image) → going ≡ [] → coming ≡ [] → told ≡ Some before
-    → IsRewritten file last last going coming before told
-rewritten_nothing file last going coming before told none no_more is = record {
+pub rewritten_nothing : (file last : ℕ) (going coming : List (List ℕ)) (before : Image) (known : Option Image) → going ≡ [] → coming ≡ [] → known ≡ Some before
+    → IsRewritten file last last going coming before known
+rewritten_nothing file last going coming before known none no_more is = record {
   image = before;
-  told_still = is;
+  still_known = is;
   elsewhere = λ b other. refl;
   on_chain = λ earlier first chained lie. (
       let rows = lying (pages_of before file) (earlier ++ last ∷ []) in
@@ -44,18 +44,18 @@ rewritten_nothing file last going coming before told none no_more is = record {
 }
 
 -- what a chain's renewal leaves
-pub rewritten : (file last now : ℕ) (going coming : List (List ℕ)) (before : Image) (old told : Option Image) → now < most_pages → old ≡ Some before → KeepsOthers file old told
+pub rewritten : (file last now : ℕ) (going coming : List (List ℕ)) (before : Image) (old known : Option Image) → now < most_pages → old ≡ Some before → KeepsOthers file old known
     → ((earlier : List ℕ) → starts (earlier ++ last ∷ []) ≡ true → IsChain most_pages (pages_of before file) (earlier ++ last ∷ []) → AllLie (pages_of before file) (earlier ++ last ∷ []) going
-    → IsRenewed file most_pages earlier last now going coming before told)
-    → IsRewritten file last now going coming before told
-rewritten file last now going coming before old told below is others renewed =
+    → IsRenewed file most_pages earlier last now going coming before known)
+    → IsRewritten file last now going coming before known
+rewritten file last now going coming before old known below is others renewed =
     let kept = others.each before is in record {
       image = kept.0;
-      told_still = kept.1;
+      still_known = kept.1;
       elsewhere = kept.2;
       on_chain = λ earlier first chained lie. (
           let its = renewed earlier first chained lie in
-          let same : its.image ≡ kept.0 = same_Some its.image kept.0 (sym its.told_still ∙ kept.1) in
+          let same : its.image ≡ kept.0 = same_Some its.image kept.0 (sym its.still_known ∙ kept.1) in
           record {
             chain = subst (λ (n : Image). IsChain most_pages (pages_of n file) (earlier ++ numbers_to last now)) same (its.chain most_pages (omega arith) below);
             came = subst (λ (n : Image). Came (staying going (lying (pages_of before file) (earlier ++ last ∷ []))) coming (lying (pages_of n file) (earlier ++ numbers_to last now))) same its.came;
@@ -84,11 +84,11 @@ module _ {A : Type 0} {cmp : A → A → Ordering} (order : IsTotalOrder cmp) (t
     pub are : listed read cmp pages ≡ Some set
     pub ends : EndsAt pages last
 
-  pub lists_then : (file last now : ℕ) (gone come : List (List ℕ)) (before : Image) (told : Option Image) (set going coming : List A) → (its : IsRewritten file last now gone come before told)
+  pub lists_then : (file last now : ℕ) (gone come : List (List ℕ)) (before : Image) (known : Option Image) (set going coming : List A) → (its : IsRewritten file last now gone come before known)
       → last ≤ now → EndsAt (pages_of before file) last → listed read cmp (pages_of before file) ≡ Some set → IsChange cmp going coming set
       → IsPermutation gone (map spell going) → IsPermutation come (map spell coming) → AllByRecursion (λ x. test x ≡ true) (after_change cmp going coming set)
       → ListsThen (pages_of its.image file) now (after_change cmp going coming set)
-  lists_then file last now gone come before told set going coming its le ends is change goes comes stand =
+  lists_then file last now gone come before known set going coming its le ends is change goes comes stand =
       let pages = pages_of before file in
       let later = pages_of its.image file in
       let numbers = ends.earlier ++ last ∷ [] in

@@ -3,4 +3,4 @@ pub mod Files
 pub mod Items
 pub mod Listed
 pub mod Moved
-pub mod Told
+pub mod Known

@@ -49,21 +49,21 @@ unfolding catalogue_in
 of_sets m entries columns parts e f g = λ i. e i >>= (λ entries. f i >>= (λ columns. g i >>= (λ parts. Some (record { entries = entries; columns = columns; parts = parts }))))
 
 -- Three files are written one after the other.
-pub record ThreeWritten (ends now : Ends) (moves : Moves) (before : Image) (told : Option Image) : Type 0 where
+pub record ThreeWritten (ends now : Ends) (moves : Moves) (before : Image) (known : Option Image) : Type 0 where
   pub first : Option Image
   pub second : Option Image
   pub entries : IsRewritten 5 ends.entries now.entries moves.entries.going moves.entries.coming before first
   pub columns : IsRewritten 6 ends.columns now.columns moves.columns.going moves.columns.coming entries.image second
-  pub parts : IsRewritten 7 ends.parts now.parts moves.parts.going moves.parts.coming columns.image told
+  pub parts : IsRewritten 7 ends.parts now.parts moves.parts.going moves.parts.coming columns.image known
   pub entries_behind : ends.entries ≤ now.entries
   pub columns_behind : ends.columns ≤ now.columns
   pub parts_behind : ends.parts ≤ now.parts
 
-pub all_written : (ends now : Ends) (moves : Moves) (before : Image) (told : Option Image) (cat going coming : Catalogue) → ThreeWritten ends now moves before told → AreEnds before ends
+pub all_written : (ends now : Ends) (moves : Moves) (before : Image) (known : Option Image) (cat going coming : Catalogue) → ThreeWritten ends now moves before known → AreEnds before ends
     → catalogue_in (pages_of before) ≡ Some cat → AreChanges going coming cat → IsCatalogue (changed going coming cat) → AreMoves going coming moves
-    → Written before told now (changed going coming cat)
+    → Written before known now (changed going coming cat)
 unfolding changed
-all_written ends now moves before told cat going coming its there is changes stands are =
+all_written ends now moves before known cat going coming its there is changes stands are =
     let sets = sets_in before cat is in
     let a = its.entries in
     let b = its.columns in
@@ -79,12 +79,12 @@ all_written ends now moves before told cat going coming its there is changes sta
     let two = lists_then column_total is_column column_bytes column_of columns_are_their_bytes what_is_listed.columns 6 ends.columns now.columns moves.columns.going moves.columns.coming a.image its.second
     cat.columns going.columns coming.columns b its.columns_behind (subst (λ pages. EndsAt pages ends.columns) (sym to_six) there.columns)
     (subst (λ pages. listed column_of column_cmp pages ≡ Some cat.columns) (sym to_six) sets.columns) changes.columns are.columns_go are.columns_come stands.are_columns in
-    let three = lists_then part_total is_part part_bytes part_of parts_are_their_bytes what_is_listed.parts 7 ends.parts now.parts moves.parts.going moves.parts.coming b.image told
+    let three = lists_then part_total is_part part_bytes part_of parts_are_their_bytes what_is_listed.parts 7 ends.parts now.parts moves.parts.going moves.parts.coming b.image known
     cat.parts going.parts coming.parts c its.parts_behind (subst (λ pages. EndsAt pages ends.parts) (sym to_seven) there.parts)
     (subst (λ pages. listed part_of part_cmp pages ≡ Some cat.parts) (sym to_seven) sets.parts) changes.parts are.parts_go are.parts_come stands.are_parts in
     record {
       image = c.image;
-      told_still = c.told_still;
+      still_known = c.still_known;
       holds = of_sets c.image (after_change entry_cmp going.entries coming.entries cat.entries) (after_change column_cmp going.columns coming.columns cat.columns)
           (after_change part_cmp going.parts coming.parts cat.parts)
           (subst (λ pages. listed entry_of entry_cmp pages ≡ Some (after_change entry_cmp going.entries coming.entries cat.entries)) (sym from_five) one.are)

@@ -22,10 +22,10 @@ pub record AreEnds (m : Image) (ends : Ends) : Type 0 where
 abbrev pub SameBesides : Image → Image → Type 0
 SameBesides m n = (b : Addr) → (b.file ≡ 5 → ⊥) → (b.file ≡ 6 → ⊥) → (b.file ≡ 7 → ⊥) → n b ≡ m b
 
--- The pages are told still, and hold this catalogue; its chains end there, and other files are as before.
-pub record Written (before : Image) (told : Option Image) (ends : Ends) (cat : Catalogue) : Type 0 where
+-- The pages are still known, and hold this catalogue; its chains end there, and other files are as before.
+pub record Written (before : Image) (known : Option Image) (ends : Ends) (cat : Catalogue) : Type 0 where
   pub image : Image
-  pub told_still : told ≡ Some image
+  pub still_known : known ≡ Some image
   pub holds : catalogue_in (pages_of image) ≡ Some cat
   pub ends_there : AreEnds image ends
   pub others : SameBesides before image

@@ -1,6 +1,6 @@
 -- What stands on the chain of one file when rows of it went and others came.
 use Rattle.std.specs.Prelude.{◌≡◌, ℕ, true, List, [], ◌∷◌, ◌++◌, Option, Some}
-use Rattle.access_traits.specs.Pages.{SameElsewhere}
+use Rattle.am_traits.specs.Pages.{SameElsewhere}
 use Rattle.disk_model.specs.Disk.{Image}
 use Rattle.page_chain.specs.Chains.{IsChain, starts}
 use Rattle.page_chain.specs.Grown.{numbers_to}
@@ -14,10 +14,10 @@ pub record OnChain (file : ℕ) (earlier : List ℕ) (last now : ℕ) (going com
   pub chain : IsChain most_pages (pages_of image file) (earlier ++ numbers_to last now)
   pub came : Came (staying going (lying (pages_of before file) (earlier ++ last ∷ []))) coming (lying (pages_of image file) (earlier ++ numbers_to last now))
 
--- The pages are told still, and those of other files are the same; so it is on the chain of this file that ended at page `last`, where the rows that were to go are on it.
-pub record IsRewritten (file last now : ℕ) (going coming : List (List ℕ)) (before : Image) (told : Option Image) : Type 0 where
+-- The pages are still known, and those of other files are the same; so it is on the chain of this file that ended at page `last`, where the rows that were to go are on it.
+pub record IsRewritten (file last now : ℕ) (going coming : List (List ℕ)) (before : Image) (known : Option Image) : Type 0 where
   pub image : Image
-  pub told_still : told ≡ Some image
+  pub still_known : known ≡ Some image
   pub elsewhere : SameElsewhere file before image
   pub on_chain : (earlier : List ℕ) → starts (earlier ++ last ∷ []) ≡ true → IsChain most_pages (pages_of before file) (earlier ++ last ∷ [])
       → AllLie (pages_of before file) (earlier ++ last ∷ []) going → OnChain file earlier last now going coming before image

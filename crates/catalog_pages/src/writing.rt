@@ -2,7 +2,7 @@
 
 ghost use Rattle.std.specs.Prelude.{◌≡◌, ◌+◌, ◌<◌, ◌≤◌, ◌^◌, All, Some, IfOk, true};
 ghost use Rattle.disk_model.specs.Disk.{Image};
-ghost use Rattle.access_traits.specs.Causes.{HasFileCause};
+ghost use Rattle.am_traits.specs.Causes.{HasFileCause};
 ghost use Rattle.page_chain.specs.Chains.{NoChainTo};
 ghost use Rattle.page_chain.specs.Lying.{IsShort};
 ghost use Rattle.page_chain.specs.Pages.{pages_of};
@@ -12,8 +12,8 @@ ghost use Rattle.catalog_moves.specs.Moves.{AreMoves, AreShort};
 ghost use Rattle.catalog_pages.specs.Ends.{AreEnds, NoCatalogue, Written};
 ghost use Rattle.catalog_pages.specs.Rewritten.{IsRewritten};
 
-use access_traits::PageStore;
-use am_traits::BaseFault;
+use am_traits::PageStore;
+use base_trait::BaseFault;
 use catalog_moves::{FileMoves, Moves};
 use page_chain::{Chain, replace};
 use std::alloc::Global;

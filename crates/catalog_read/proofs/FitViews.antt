@@ -1,4 +1,4 @@
--- Of views that wait to be laid some may be laid: one of the least level.
+-- Of views that wait to be applied some may be applied: one of the least level.
 use Rattle.std.proofs.Common.{◌≡◌, refl, sym, ap, ◌∙◌, subst, inl, inr, ◌⊎◌, ℕ, zero, suc, ◌+◌, nat_le, Bool, true, false, IsTrue, List, [], ◌∷◌, ◌++◌, Option, Some, None, map, length}
 use Rattle.std.specs.Prelude.{is_some, flat_map, sum, sum_by}
 use Rattle.std.specs.List.{list_all, AllByRecursion}
@@ -8,7 +8,7 @@ use Rattle.calculus.specs.declared.query.RelKey.{RelKey}
 use Rattle.calculus.specs.declared.schema.RelInfo.{RelInfo}
 use Rattle.calculus.specs.declared.change.DbChange.{DbChange}
 use Rattle.calculus.specs.Database.{Db, Relation, View, entries, relation_at, view_at}
-use Rattle.calculus.specs.IsDatabase.{IsDatabase, key_is_named, view_info_stands, attrs_stand, attrs_are_targets, vars_are_there, query_stands}
+use Rattle.calculus.specs.IsDatabase.{IsDatabase, key_is_named, valid_view_info, attrs_stand, attrs_are_targets, vars_are_there, valid_query}
 use Rattle.calculus.specs.Keys.{same_key}
 use Rattle.calculus.specs.Limits.{most_expanded_variables, most_variables, greatest_size}
 use Rattle.calculus.specs.QueryParts.{vars_of, targets_of, query_aggregates}
@@ -26,7 +26,7 @@ use Rattle.plan_laws.proofs.PlainQueries.{query_plain}
 use Rattle.plan_laws.proofs.Ranging.{ranged}
 use Rattle.plan_laws.proofs.Staying.{Staying, map_same, all_same, level_stays, query_stays, kinds_stay}
 use Rattle.plan_laws.proofs.StayingFacts.{stands_with}
-use Rattle.catalog_read.specs.Laying.{view_of}
+use Rattle.catalog_read.specs.Applying.{view_of}
 use Rattle.catalog_read.proofs.Shuffles.{back, Pairwise}
 use Rattle.catalog_read.proofs.Members.{IsIn, of_all, in_shuffled, in_front, in_either, in_test, all_front, all_rest, all_unmapped, as_test, within_both, within_pairs, waits_within, stands_within}
 use Rattle.catalog_read.proofs.Steps.{infos_of}
@@ -101,11 +101,11 @@ module _ (left : List DbChange) (part whole : Db) (w : Waits left part whole) (i
   stay : Staying (IsThere part) part whole
   stay = part_stays part whole w.database is (has_views whole w.all)
 
-  -- a view may be laid where all that it names is there
+  -- a view may be applied where all that it names is there
   pub view_fits : (view : View) → IsIn view (flat_map view_of left) → IsTrue (vars_are_there part view.query) → view_is_fit part view.info view.query ≡ true
   unfolding view_is_fit view_is_small query_size expanded_variables
   view_fits view at there =
-      each _ _ free (each _ _ (its (λ v. view_info_stands v.info) w.all.view_infos_stand) (each _ _ (its (λ v. attrs_stand v.info.attrs) w.all.view_attrs_stand)
+      each _ _ free (each _ _ (its (λ v. valid_view_info v.info) w.all.view_infos_stand) (each _ _ (its (λ v. attrs_stand v.info.attrs) w.all.view_attrs_stand)
       (each _ _ (its (λ v. attrs_are_targets v.info.attrs (targets_of v.query)) w.all.view_attrs_are_targets) (each _ _ there (each _ _ (not_too_high part q levels) (each _ _ stands
       (each _ _ (its (λ v. nat_le (length_of v.query) most_expanded_variables) w.all.few_listed_variables) (each _ _ (its (λ v. nat_le (variables v.query) most_variables) w.all.few_variables)
       (each _ _ expanded (each _ _ small (its (λ v. query_is_storable v.query) w.all.storable_views)))))))))))
@@ -132,9 +132,9 @@ module _ (left : List DbChange) (part whole : Db) (w : Waits left part whole) (i
       levels = all_same (IsThere part) (λ key. is_some (level_within 15 part key)) (λ key. is_some (level_within 15 whole key)) (vars_of q) own_vars (λ key p. ap is_some (level_stays (IsThere part) part whole stay 15 key p))
           ∙ levels_below whole view (view_ranged whole view w.all (among view at)) (its (λ v. is_some (level_of whole v.info.key)) w.all.views_have_levels)
 
-      stands : IsTrue (query_stands part q)
+      stands : IsTrue (valid_query part q)
       stands = ap (λ kinds. stands_with kinds q) (map_same (IsThere part) (kinds_at part) (kinds_at whole) (vars_of q) own_vars (λ key p. kinds_stay (IsThere part) part whole stay key p))
-          ∙ its (λ v. query_stands whole v.query) w.all.view_queries_stand
+          ∙ its (λ v. valid_query whole v.query) w.all.view_queries_stand
 
       with : Db → Measure → List QAgg → ℕ
       with d m gs = m.variables + sum_by (λ g. source_variables (measure_of d) g.source) gs
@@ -151,7 +151,7 @@ module _ (left : List DbChange) (part whole : Db) (w : Waits left part whole) (i
       small : IsTrue (nat_le (query_size part q) greatest_size)
       small = ap (λ (m : Measure). nat_le (sum m.attrs + m.qual) greatest_size) (query_stays (IsThere part) part whole stay q own_vars) ∙ its (λ v. nat_le (query_size whole v.query) greatest_size) w.all.small_views
 
-  -- no view that waits may be laid
+  -- no view that waits may be applied
   abbrev pub NoneFits : Type 0
   NoneFits = AllByRecursion (λ v. view_is_fit part v.info v.query ≡ false) (flat_map view_of left)
 

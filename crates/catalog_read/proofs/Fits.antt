@@ -1,4 +1,4 @@
--- Of what waits to be laid, relations may be laid, and where all relations stand, indexes, rules and permits may.
+-- Of what waits to be applied, relations may be applied, and where all relations stand, indexes, rules and permits may.
 use Rattle.std.proofs.Common.{◌≡◌, refl, sym, ap, ◌∙◌, subst, ℕ, nat_le, nat_lt, ◌≤◌, Bool, true, ◌&&◌, not, IsTrue, List, [], ◌∷◌, ◌++◌, map, filter, length, arith}
 use Rattle.std.specs.Prelude.{find, flat_map, bytes_eq}
 use Rattle.std.specs.List.{list_all}
@@ -11,7 +11,7 @@ use Rattle.calculus.specs.declared.schema.RelInfo.{RelInfo}
 use Rattle.calculus.specs.declared.schema.Rule.{Rule}
 use Rattle.calculus.specs.declared.change.DbChange.{DbChange}
 use Rattle.calculus.specs.Database.{Db, Relation, Index, entries, is_relation}
-use Rattle.calculus.specs.IsDatabase.{IsDatabase, structure_stands, attrs_stand, are_stored, index_stands, keys_stand, row_qual_stands, permit_stands, user_is_named}
+use Rattle.calculus.specs.IsDatabase.{IsDatabase, valid_structure, attrs_stand, are_stored, valid_index, keys_stand, valid_row_qual, valid_permit, user_is_named}
 use Rattle.calculus.specs.Keys.{same_key, key_of}
 use Rattle.calculus.specs.Kinds.{kinds_fit}
 use Rattle.calculus.specs.Limits.{most_rules, most_permits, greatest_number}
@@ -27,7 +27,7 @@ use Rattle.plan_laws.proofs.Kept.{both, each, count}
 use Rattle.plan_laws.proofs.NewIndexes.{is_yes}
 use Rattle.plan_laws.proofs.NewNumbers.{of_key}
 use Rattle.plan_laws.proofs.Tests.{there_is, found_has, key_found, lt_true}
-use Rattle.catalog_read.specs.Laying.{Shuffled, relation_of, index_of, view_of, rule_of, permit_of}
+use Rattle.catalog_read.specs.Applying.{Shuffled, relation_of, index_of, view_of, rule_of, permit_of}
 use Rattle.catalog_read.proofs.Members.{IsIn, in_shuffled, in_front, in_test, Within, within_both, waits_within, stands_within}
 use Rattle.catalog_read.proofs.Steps.{infos_of, IsBare}
 use Rattle.catalog_read.proofs.Waiting.{views_of, indexes_of, within_mapped, third_first, key_free, number_free}
@@ -61,7 +61,7 @@ module _ (left : List DbChange) (part whole : Db) (w : Waits left part whole) wh
   pub relation_fits : (info : RelInfo) → IsIn info (flat_map relation_of left) → relation_is_fit part info [] ≡ true
   unfolding relation_is_fit
   relation_fits info at =
-      each _ _ free (each _ _ (its structure_stands w.all.structures_stand) (each _ _ (its (λ i. attrs_stand i.attrs) w.all.relation_attrs_stand) (each _ _ (its (λ i. are_stored i.attrs) w.all.relations_are_stored) refl)))
+      each _ _ free (each _ _ (its valid_structure w.all.structures_stand) (each _ _ (its (λ i. attrs_stand i.attrs) w.all.relation_attrs_stand) (each _ _ (its (λ i. are_stored i.attrs) w.all.relations_are_stored) refl)))
     where
       among : IsIn info (infos_of whole)
       among = in_shuffled info (flat_map relation_of left ++ infos_of part) (infos_of whole) w.relations (in_front info (flat_map relation_of left) (infos_of part) at)
@@ -80,7 +80,7 @@ module _ (left : List DbChange) (part whole : Db) (w : Waits left part whole) wh
   pub index_fits : IsPart part whole → (x : Index) → key_of x.base.owner x.info.key.name ≡ x.info.key → IsIn x (flat_map index_of left) → index_is_fit part x.base x.info.key.name x.info.keys ≡ true
   unfolding index_is_fit
   index_fits is x own at =
-      let stands = in_test (index_stands whole) whole.indexes x w.all.indexes_stand
+      let stands = in_test (valid_index whole) whole.indexes x w.all.indexes_stand
       (in_shuffled x (flat_map index_of left ++ part.indexes) whole.indexes w.indexes (in_front x (flat_map index_of left) part.indexes at)) in
       let kind = both (is_index x.info.spec) _ stands in
       let base = both (is_relation whole x.base) _ kind.1 in
@@ -117,7 +117,7 @@ module _ (left : List DbChange) (part whole : Db) (w : Waits left part whole) wh
   pub rule_fits : IsPart part whole → (x : RelKey × Rule) → IsIn x (flat_map rule_of left) → rule_is_fit part x.0 x.1 ≡ true
   unfolding rule_is_fit number_is_free
   rule_fits is x at =
-      let stands = both (is_relation whole x.0) (row_qual_stands whole x.0 x.1.qual) (its (λ p. is_relation whole p.0 && row_qual_stands whole p.0 p.1.qual) w.all.rules_stand) in
+      let stands = both (is_relation whole x.0) (valid_row_qual whole x.0 x.1.qual) (its (λ p. is_relation whole p.0 && valid_row_qual whole p.0 p.1.qual) w.all.rules_stand) in
       let free = number_free (λ (r : Rule). r.number) most_rules x.0 x.1 part.rules whole.rules (waits_within x (flat_map rule_of left) part.rules whole.rules w.rules at) w.all.rules_ascend
       (few_on x.0 whole.rules most_rules stands.0 w.all.few_rules) in
       each _ _ (relation_same part whole is x.0 ∙ stands.0) (each _ _ (ap (λ (attrs : List Attr). kinds_fit x.1.qual (map (λ a. a.kind) attrs ∷ [])) (attrs_same part whole is x.0 stands.0) ∙ stands.1)
@@ -130,7 +130,7 @@ module _ (left : List DbChange) (part whole : Db) (w : Waits left part whole) wh
   pub permit_fits : IsPart part whole → (x : RelKey × Permit) → IsIn x (flat_map permit_of left) → permit_is_fit part x.0 x.1 ≡ true
   unfolding permit_is_fit number_is_free
   permit_fits is x at =
-      let stands = its (λ p. permit_stands whole p.0 p.1) w.all.permits_stand in
+      let stands = its (λ p. valid_permit whole p.0 p.1) w.all.permits_stand in
       let there = (both (is_relation whole x.0) _ stands).0 in
       let free = number_free (λ (p : Permit). p.number) most_permits x.0 x.1 part.permits whole.permits (waits_within x (flat_map permit_of left) part.permits whole.permits w.permits at) w.all.permits_ascend
       (few_on x.0 whole.permits most_permits there w.all.few_permits) in
@@ -142,6 +142,6 @@ module _ (left : List DbChange) (part whole : Db) (w : Waits left part whole) wh
       its : (test : RelKey × Permit → Bool) → IsTrue (list_all test whole.permits) → IsTrue (test x)
       its test t = in_test test whole.permits x t (in_shuffled x (flat_map permit_of left ++ part.permits) whole.permits w.permits (in_front x (flat_map permit_of left) part.permits at))
 
-      stands_same : is_relation part x.0 ≡ is_relation whole x.0 → part.dba ≡ whole.dba → attrs_at part x.0 ≡ attrs_at whole x.0 → permit_stands part x.0 x.1 ≡ permit_stands whole x.0 x.1
+      stands_same : is_relation part x.0 ≡ is_relation whole x.0 → part.dba ≡ whole.dba → attrs_at part x.0 ≡ attrs_at whole x.0 → valid_permit part x.0 x.1 ≡ valid_permit whole x.0 x.1
       stands_same there dba attrs = λ i.
           there i && (bytes_eq x.0.owner (dba i) && (user_is_named x.1.user && (list_all (λ a. nat_lt a (length (attrs i))) x.1.attrs && kinds_fit x.1.qual (map (λ a. a.kind) (attrs i) ∷ []))))

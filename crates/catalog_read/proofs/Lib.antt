@@ -21,4 +21,4 @@ pub mod FitViews
 pub mod Whole
 pub mod Stuck
 pub mod Starts
-pub mod Told
+pub mod Known

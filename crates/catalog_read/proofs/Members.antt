@@ -4,7 +4,7 @@ use Rattle.std.specs.Prelude.{flat_map}
 use Rattle.std.specs.List.{list_all, AllByRecursion}
 use Rattle.plan_laws.proofs.Kept.{each, count}
 use Rattle.plan_laws.proofs.Created.{each_true}
-use Rattle.catalog_read.specs.Laying.{Shuffled, nothing, beside, swapped, twice}
+use Rattle.catalog_read.specs.Applying.{Shuffled, nothing, beside, swapped, twice}
 use Rattle.catalog_read.proofs.Shuffles.{same, back, before_same, behind_same, both_shuffled, turned, length_same, all_shuffled, count_same, Pairwise, pairwise_shuffled}
 
 -- the item is one of these

@@ -11,7 +11,7 @@ use Rattle.std.proofs.lemmas.Bool.Decides.{nat_tests}
 use Rattle.calculus.specs.Lists.{insert_by}
 use Rattle.page_chain.specs.Lists.{when, in_order, once}
 use Rattle.quel_meaning.proofs.InOrder.{insert_as, insert-cons, in_order-insert}
-use Rattle.catalog_read.specs.Laying.{Shuffled, nothing, beside, swapped, twice}
+use Rattle.catalog_read.specs.Applying.{Shuffled, nothing, beside, swapped, twice}
 use Rattle.catalog_read.proofs.Shuffles.{same, back, length_same, Pairwise, pairwise_shuffled, all_shuffled}
 use Rattle.catalog_read.proofs.Members.{IsIn, in_shuffled, of_all}
 

@@ -1,4 +1,4 @@
--- What a round does to the parts of a database, and what one that lays nothing says.
+-- What a round does to the parts of a database, and what one that applies nothing says.
 use Rattle.std.proofs.Common.{◌≡◌, refl, sym, ◌∙◌, subst, ℕ, suc, ◌≤◌, Bool, true, false, IsTrue, List, [], ◌∷◌, ◌++◌, length, arith, append_assoc}
 use Rattle.std.specs.Prelude.{flat_map}
 use Rattle.std.specs.List.{list_all, AllByRecursion}
@@ -10,13 +10,13 @@ use Rattle.change_laws.specs.Fit.{change_is_fit}
 use Rattle.change_laws.proofs.Exactly.{fits_exactly}
 use Rattle.plan_laws.proofs.Kept.{both, each}
 use Rattle.catalog_read.specs.Parts.{Parts}
-use Rattle.catalog_read.specs.Laying.{Shuffled, twice, relation_of, index_of, view_of, rule_of, permit_of, makes_a_part, IsLeft, round}
+use Rattle.catalog_read.specs.Applying.{Shuffled, twice, relation_of, index_of, view_of, rule_of, permit_of, makes_a_part, IsLeft, round}
 use Rattle.catalog_read.proofs.Shuffles.{same, back, before_same, behind_same, turned}
 use Rattle.catalog_read.proofs.Steps.{infos_of, IsBare, Puts, change_puts}
 
 -- ---- parts that are moved
 
--- changes that were to be laid on the one database, and those that are left to be laid on the other
+-- changes that were to be applied on the one database, and those that are left to be applied on the other
 pub record Moves (changes : List DbChange) (db : Db) (left : List DbChange) (later : Db) : Type 0 where
   pub database : IsDatabase later
   pub administrator : later.dba ≡ db.dba
@@ -119,7 +119,7 @@ round_length (c ∷ changes) db = go (change_is_fit db c) (round_length changes 
     go true h k = omega (arith, h)
     go false h k = omega (arith, k)
 
--- where as many are left, none may be laid
+-- where as many are left, none may be applied
 pub none_fits : (changes : List DbChange) (db : Db) → length (round db changes).1 ≡ length changes → AllByRecursion (λ c. change_is_fit db c ≡ false) changes
 unfolding round
 none_fits [] db h = tt

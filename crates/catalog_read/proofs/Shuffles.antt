@@ -2,7 +2,7 @@
 use Rattle.std.proofs.Common.{◌≡◌, refl, sym, ap, ◌∙◌, subst, suc, Bool, true, false, cond, List, [], ◌∷◌, ◌++◌, map, filter, length, append-nil}
 use Rattle.std.specs.List.{AllByRecursion}
 use Rattle.plan_laws.proofs.Kept.{count}
-use Rattle.catalog_read.specs.Laying.{Shuffled, nothing, beside, swapped, twice}
+use Rattle.catalog_read.specs.Applying.{Shuffled, nothing, beside, swapped, twice}
 
 pub same : {X : Type 0} (xs : List X) → Shuffled xs xs
 same [] = nothing

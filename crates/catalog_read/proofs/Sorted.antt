@@ -113,9 +113,9 @@ module _ {A : Type 0} {cmp : A → A → Ordering} (order : IsTotalOrder cmp) wh
         ((low, above x y ys low later.0), later)
 
     -- they ascend where each is smaller than the next
-    pub neighbours_tell : (xs : List X) (r : Bool) → IsAllAdjacentAnswer (λ x y b. b ≡ is_lt (cmp (f x) (f y))) xs r
+    pub neighbours_decide : (xs : List X) (r : Bool) → IsAllAdjacentAnswer (λ x y b. b ≡ is_lt (cmp (f x) (f y))) xs r
         → (IsTrue r → IsStrictlySortedBy cmp (map f xs)) × (IsStrictlySortedBy cmp (map f xs) → IsTrue r)
-    neighbours_tell xs true answer = (λ h. from_neighbours xs (λ k d low. answer k d (omega (arith, low)) ∙ ap (λ n. is_lt (cmp (f (get_or xs k d)) (f (get_or xs n d)))) (add-one k)), λ up. refl)
-    neighbours_tell [] false answer = (λ h. cc, λ up. absurd (omega (arith, answer.1)))
-    neighbours_tell (x ∷ xs) false answer =
+    neighbours_decide xs true answer = (λ h. from_neighbours xs (λ k d low. answer k d (omega (arith, low)) ∙ ap (λ n. is_lt (cmp (f (get_or xs k d)) (f (get_or xs n d)))) (add-one k)), λ up. refl)
+    neighbours_decide [] false answer = (λ h. cc, λ up. absurd (omega (arith, answer.1)))
+    neighbours_decide (x ∷ xs) false answer =
         (λ h. cc, λ up. cc (rising (x ∷ xs) up answer.0 (answer.0 + 1) x (omega arith) answer.1, answer.2 x))

@@ -1,4 +1,4 @@
--- The changes that make parts, before anything is laid; and the steps of a round.
+-- The changes that make parts, before anything is applied; and the steps of a round.
 use Rattle.std.proofs.Common.{◌≡◌, refl, sym, ap, ◌∙◌, subst, ℕ, Bool, true, false, ◌&&◌, not, IsTrue, List, [], ◌∷◌, ◌++◌, map, append_assoc, append-nil, Some, length, arith}
 use Rattle.std.specs.Prelude.{flat_map, bytes_eq, ◌↔◌}
 use Rattle.std.specs.List.{list_all, AllByRecursion}
@@ -13,17 +13,17 @@ use Rattle.calculus.specs.declared.schema.Spec.{Spec}
 use Rattle.calculus.specs.declared.schema.Spec.TheVariants as spec
 use Rattle.calculus.specs.Change.{laid, IsLawful}
 use Rattle.calculus.specs.Database.{Db, Index, View}
-use Rattle.calculus.specs.IsDatabase.{IsDatabase, index_stands}
+use Rattle.calculus.specs.IsDatabase.{IsDatabase, valid_index}
 use Rattle.calculus.specs.Lists.{is_any}
 use Rattle.calculus.specs.Structures.{is_index}
 use Rattle.change_laws.specs.Fit.{change_is_fit}
 use Rattle.change_laws.proofs.Exactly.{fits_exactly}
 use Rattle.plan_laws.proofs.Kept.{both, each}
-use Rattle.catalog_read.specs.declared.parts.IndexPart.{IndexPart}
-use Rattle.catalog_read.specs.declared.parts.ViewPart.{ViewPart}
-use Rattle.catalog_read.specs.declared.parts.SchemaParts.{SchemaParts}
+use Rattle.catalog_read.specs.declared.schema_parts.IndexPart.{IndexPart}
+use Rattle.catalog_read.specs.declared.schema_parts.ViewPart.{ViewPart}
+use Rattle.catalog_read.specs.declared.schema_parts.SchemaParts.{SchemaParts}
 use Rattle.catalog_read.specs.Parts.{parts_in, index_in, view_in, whole, index_owners_agree}
-use Rattle.catalog_read.specs.Laying.{Shuffled, changes_of, made_index, made_relation, made_view, made_rule, made_permit, is_of_its_base, relation_of, index_of, view_of, rule_of, permit_of, makes_a_part, IsLeft, nothing_in, round, behind, stepped}
+use Rattle.catalog_read.specs.Applying.{Shuffled, changes_of, made_index, made_relation, made_view, made_rule, made_permit, is_of_its_base, relation_of, index_of, view_of, rule_of, permit_of, makes_a_part, IsLeft, nothing_in, round, behind, stepped}
 use Rattle.catalog_read.proofs.Shuffles.{same, back, all_shuffled}
 use Rattle.catalog_read.proofs.Members.{all_mapped, all_unmapped, all_of, in_test, as_test}
 use Rattle.catalog_read.proofs.Whole.{whole_is}
@@ -97,7 +97,7 @@ of_their_bases dba p db e is agree =
     as_test (λ x. is_of_its_base (index_in x)) p.indexes (all_unmapped (λ x. IsTrue (is_of_its_base x)) index_in p.indexes
     (all_shuffled (λ x. IsTrue (is_of_its_base x)) db.indexes (map index_in p.indexes) (back (map index_in p.indexes) db.indexes (whole_is dba (parts_in p) db e).indexes)
     (all_of (λ x. IsTrue (is_of_its_base x)) db.indexes (λ x at. (
-    let stands = in_test (index_stands db) db.indexes x is.indexes_stand at in
+    let stands = in_test (valid_index db) db.indexes x is.indexes_stand at in
     let kind = both (is_index x.info.spec) _ stands in
     let base = both _ _ kind.1 in
     let attrs = both (not (is_any x.info.attrs)) _ base.1 in
@@ -115,7 +115,7 @@ owners_of_bases dba p db own e =
     let kind = both (is_index x.info.spec) (not (is_any x.info.attrs) && bytes_eq x.info.key.owner x.base.owner) t in
     (both (not (is_any x.info.attrs)) (bytes_eq x.info.key.owner x.base.owner) kind.1).1)))))
 
--- ---- before anything is laid
+-- ---- before anything is applied
 
 -- what five lists give is what each gives
 five_is : {X Y : Type 0} (f : X → List Y) (a b c d e : List X) (k l m n o : List Y) → flat_map f a ≡ k → flat_map f b ≡ l → flat_map f c ≡ m → flat_map f d ≡ n → flat_map f e ≡ o
@@ -197,7 +197,7 @@ all_is_left dba p own = record {
     each_again [] t = tt
     each_again (x ∷ xs) t = let parts = both (is_of_its_base (index_in x)) (list_all (λ x. is_of_its_base (index_in x)) xs) t in (index_again (index_in x) parts.0, each_again xs parts.1)
 
--- ---- whether a change may be laid
+-- ---- whether a change may be applied
 
 pub fit_is : (db : Db) (c : DbChange) (fit : Bool) → IsDatabase db → ((fit ≡ true) ↔ IsLawful db c) → fit ≡ change_is_fit db c
 fit_is db c true is h = sym ((fits_exactly db c is).1 (h.0 refl))
@@ -225,7 +225,7 @@ round_step db later left more c changes e = go (change_is_fit db c) e
         (λ i. ((round db changes).0, sym (append_assoc left (c ∷ []) (round db changes).1) i))
         ∙ ap (λ (s : Db × List DbChange). behind s.1 (round s.0 changes)) (sym e)
 
--- a step that lays its change
+-- a step that applies its change
 pub stepped_laid : (db later : Db) (left : List DbChange) (c : DbChange) → true ≡ change_is_fit db c → later ≡ laid db c → (later, left) ≡ stepped db left c
 stepped_laid db later left c e f =
     (λ i. (f i, left)) ∙ ap (λ b. elim b as (λ b. Db × List DbChange) [ true ↦ (laid db c, left) | false ↦ (db, left ++ c ∷ []) ]) e

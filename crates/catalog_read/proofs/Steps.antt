@@ -1,4 +1,4 @@
--- What a change that may be laid does to the parts of a database.
+-- What a change that may be applied does to the parts of a database.
 use Rattle.std.proofs.Common.{◌≡◌, refl, sym, ◌∙◌, ℕ, nat_eq, Bool, true, false, not, cond, IsTrue, List, [], ◌∷◌, ◌++◌, map, filter}
 use Rattle.std.specs.List.{AllByRecursion}
 use Rattle.std.specs.Ordering.{is_eq, nat_cmp, ordering_then}
@@ -20,7 +20,7 @@ use Rattle.plan_laws.proofs.Indexes.{is_no}
 use Rattle.plan_laws.proofs.NewIndexes.{not_there, new-all, key_exact, other_way}
 use Rattle.plan_laws.proofs.NewNumbers.{of_key}
 use Rattle.plan_laws.proofs.Planned.{neither}
-use Rattle.catalog_read.specs.Laying.{Shuffled, relation_of, index_of, view_of, rule_of, permit_of, makes_a_part}
+use Rattle.catalog_read.specs.Applying.{Shuffled, relation_of, index_of, view_of, rule_of, permit_of, makes_a_part}
 use Rattle.catalog_read.proofs.Shuffles.{same, mapped}
 use Rattle.catalog_read.proofs.Members.{all_front, all_rest, all_unmapped}
 use Rattle.catalog_read.proofs.Once.{put_shuffled}

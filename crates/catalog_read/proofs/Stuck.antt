@@ -1,4 +1,4 @@
--- Where changes are left and none of them may be laid, the parts make no database.
+-- Where changes are left and none of them may be applied, the parts make no database.
 use Rattle.std.proofs.Common.{◌≡◌, refl, sym, ap, ◌∙◌, subst, inl, ℕ, Bool, true, false, IsTrue, List, [], ◌∷◌, ◌++◌, Some, map, length}
 use Rattle.std.specs.Prelude.{flat_map}
 use Rattle.std.specs.List.{list_all, AllByRecursion}
@@ -14,7 +14,7 @@ use Rattle.change_laws.specs.Fit.{change_is_fit, relation_is_fit, index_is_fit, 
 use Rattle.plan_laws.proofs.Created.{each_true, both_each}
 use Rattle.plan_laws.proofs.Orders.{key_total}
 use Rattle.catalog_read.specs.Parts.{Parts, relation_in, whole}
-use Rattle.catalog_read.specs.Laying.{Shuffled, twice, relation_of, index_of, view_of, rule_of, permit_of, makes_a_part, IsLeft}
+use Rattle.catalog_read.specs.Applying.{Shuffled, twice, relation_of, index_of, view_of, rule_of, permit_of, makes_a_part, IsLeft}
 use Rattle.catalog_read.proofs.Members.{IsIn, of_all, in_shuffled, in_behind, all_made, all_mapped, all_unmapped}
 use Rattle.catalog_read.proofs.Once.{sorted_same}
 use Rattle.catalog_read.proofs.Steps.{infos_of, IsBare}
@@ -23,9 +23,9 @@ use Rattle.catalog_read.proofs.Fits.{Waits, relation_fits, index_fits, rule_fits
 use Rattle.catalog_read.proofs.FitViews.{no_view_waits}
 use Rattle.catalog_read.proofs.Whole.{IsWhole, whole_is, bare_again}
 
--- ---- what may not be laid
+-- ---- what may not be applied
 
--- the change makes a part, and may not be laid
+-- the change makes a part, and may not be applied
 abbrev Unfit : Db → DbChange → Type 0
 Unfit db c = IsTrue (makes_a_part c) × (change_is_fit db c ≡ false)
 
@@ -128,7 +128,7 @@ module _ (left : List DbChange) (part whole : Db) (w : Waits left part whole) (k
   pub none_left : left ≡ []
   none_left = make_nothing left kinds no_relation no_index no_view no_rule no_permit
 
--- where changes are left and none may be laid, the parts make no database
+-- where changes are left and none may be applied, the parts make no database
 pub stuck : (left : List DbChange) (part : Db) → IsDatabase part → AllByRecursion (λ c. change_is_fit part c ≡ false) left → (length left ≡ 0 → ⊥)
     → (dba : List ℕ) (parts : Parts) (db : Db) → IsLeft dba left part parts → whole dba parts ≡ Some db → IsDatabase db → ⊥
 stuck left part is none some dba parts db l e all = some (ap length (none_left left part db waits l.kinds none))

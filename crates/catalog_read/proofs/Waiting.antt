@@ -1,4 +1,4 @@
--- What waits to be laid, beside what stands, in a database: its keys are free, and its numbers.
+-- What waits to be applied, beside what stands, in a database: its keys are free, and its numbers.
 use Rattle.std.proofs.Common.{◌≡◌, refl, sym, ap, ◌∙◌, subst, ℕ, suc, nat_eq, nat_le, nat_lt, ◌≤◌, ◌<◌, Bool, true, false, ◌||◌, not, cond, IsTrue, List, [], ◌∷◌, ◌++◌, Some, map, filter, length, arith}
 use Rattle.std.specs.Prelude.{find, is_some}
 use Rattle.std.specs.List.{list_all, list_any, AllByRecursion}
@@ -25,7 +25,7 @@ use Rattle.plan_laws.proofs.NewNumbers.{of_key}
 use Rattle.plan_laws.proofs.Orders.{key_total, numbered_total, same_key_is, same_key_itself}
 use Rattle.plan_laws.proofs.Planned.{neither}
 use Rattle.plan_laws.proofs.Tests.{not_full}
-use Rattle.catalog_read.specs.Laying.{Shuffled}
+use Rattle.catalog_read.specs.Applying.{Shuffled}
 use Rattle.catalog_read.proofs.Shuffles.{back, behind_same, to_front, mapped, Pairwise}
 use Rattle.catalog_read.proofs.Members.{Within, within_test, within_length, within_pairs, within_moved, within_count}
 use Rattle.catalog_read.proofs.Once.{apart_turned, sorted_apart}

@@ -15,7 +15,7 @@ use Rattle.plan_laws.proofs.Beside.{sorted_by_rel}
 use Rattle.plan_laws.proofs.BesideViews.{sorted_by_view}
 use Rattle.plan_laws.proofs.Orders.{key_total, numbered_total}
 use Rattle.catalog_read.specs.Parts.{Parts, relation_in, whole}
-use Rattle.catalog_read.specs.Laying.{Shuffled, IsLeft}
+use Rattle.catalog_read.specs.Applying.{Shuffled, IsLeft}
 use Rattle.catalog_read.proofs.Shuffles.{back, mapped, all_shuffled}
 use Rattle.catalog_read.proofs.Members.{all_unmapped}
 use Rattle.catalog_read.proofs.Once.{once_shuffled, shuffled_once}

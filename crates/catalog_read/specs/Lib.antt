@@ -4,4 +4,4 @@ pub mod Read
 pub mod Rows
 pub mod Splitting
 pub mod Parts
-pub mod Laying
+pub mod Applying

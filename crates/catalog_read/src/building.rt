@@ -7,11 +7,11 @@ ghost use Rattle.calculus.specs.Database.{Db};
 ghost use Rattle.calculus.specs.IsDatabase.{IsDatabase};
 ghost use Rattle.plain_base.specs.Shown.{database_of};
 ghost use Rattle.catalog_read.specs.Parts.{Parts, parts_in, whole, index_in, index_owners_agree};
-ghost use Rattle.catalog_read.specs.Laying.{IsLeft, nothing_in, is_of_its_base};
+ghost use Rattle.catalog_read.specs.Applying.{IsLeft, nothing_in, is_of_its_base};
 
-use crate::changes::changes_of;
-use crate::laying::lay_all;
-use crate::parts::{IndexPart, SchemaParts};
+use crate::applying::apply_all;
+use crate::parts_as_changes::changes_of;
+use crate::schema_parts::{IndexPart, SchemaParts};
 use calculus::{DbChange, Name, OutOfMemory, Spec};
 use plain_base::DbPlain;
 use std::alloc::Global;
@@ -43,7 +43,7 @@ fn laid_on_nothing(
         → (owner : Items ℕ) (parts : Parts) (db : Db) → IsLeft owner changes.items (nothing_in dba) parts → whole owner parts ≡ Some db → IsDatabase db → ⊥) }
 {
     let mut plain = DbPlain::new(alloc, dba);
-    match lay_all(alloc, &mut plain, changes) {
+    match apply_all(alloc, &mut plain, changes) {
         Ok(true) => Ok(Some(plain)),
         Ok(false) => Ok(None),
         Err(error) => Err(error),

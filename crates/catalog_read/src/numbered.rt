@@ -12,7 +12,7 @@ ghost use Rattle.catalog_rows.specs.Shown.{part_in};
 ghost use Rattle.catalog_read.specs.Read.{catalogue_shown};
 ghost use Rattle.catalog_read.specs.Rows.{numbered_in};
 
-use crate::made::Made;
+use crate::items_of_rows::Made;
 use crate::pairs::both_found;
 use crate::relations::key_at;
 use crate::rows::CatalogueRows;

@@ -12,7 +12,7 @@ ghost use Rattle.catalog_read.specs.Read.{catalogue_shown, relation_info};
 
 use crate::attributes::{known, with_attributes};
 use crate::finding::entry_at;
-use crate::made::Made;
+use crate::items_of_rows::Made;
 use crate::pairs::both_found;
 use crate::rows::{CatalogueRows, TreeKey};
 use crate::standing::OF_VIEW;

@@ -6,7 +6,7 @@ ghost use Rattle.catalog_read.specs.Parts.{parts_in};
 ghost use Rattle.catalog_read.specs.Read.{catalogue_shown, parts_of};
 ghost use Rattle.catalog_read.specs.PartsMade.{parts_made};
 
-use crate::made::all_made;
+use crate::items_of_rows::all_made;
 use crate::pairs::both_found;
 use crate::rows::CatalogueRows;
 use crate::standing::stand;

@@ -21,9 +21,9 @@ use Rattle.stored_database.proofs.Reading.{bind_some, when_some}
 use Rattle.catalog_rows.specs.Shown.{is_in_order, key_at}
 use Rattle.catalog_rows.proofs.Fields.{AreBytes, bytes_dropped, bytes_taken}
 
-column_told : (c : Column) → c.file < 4294967296 → c.place < 256 → is_name c.attr.name ≡ true → is_column c ≡ is_kind c.attr.kind
+column_known : (c : Column) → c.file < 4294967296 → c.place < 256 → is_name c.attr.name ≡ true → is_column c ≡ is_kind c.attr.kind
 unfolding is_column
-column_told c file place name = λ i. lt-ltb c.file (2 ^ 32) file i && (lt-ltb c.place 256 place i && (name i && is_kind c.attr.kind))
+column_known c file place name = λ i. lt-ltb c.file (2 ^ 32) file i && (lt-ltb c.place 256 place i && (name i && is_kind c.attr.kind))
 
 -- what was read is tested by another test
 tested : {A : Type 0} (o : Option A) (test other : A → Bool) (spell : A → List ℕ) (bytes : List ℕ) → ((x : A) → o ≡ Some x → test x ≡ other x)
@@ -44,7 +44,7 @@ column_where bytes small = tested (column_in bytes) is_column (λ c. is_kind c.a
     let k = bind_some (kind_in (slice_index (drop 17 bytes) 0) (slice_index (drop 17 bytes) 1)) _ c n.2 in
     let e = same_Some _ c k.2 in
     subst (λ (c : Column). is_column c ≡ is_kind c.attr.kind) e
-    (column_told (record { file = little_from 0 4 bytes; place = slice_index bytes 4; attr = record { name = n.0; kind = k.0 } }) (little_from-lt 0 4 bytes small) (small 4) (named (take 12 (drop 5 bytes)) n.0 n.1)))
+    (column_known (record { file = little_from 0 4 bytes; place = slice_index bytes 4; attr = record { name = n.0; kind = k.0 } }) (little_from-lt 0 4 bytes small) (small 4) (named (take 12 (drop 5 bytes)) n.0 n.1)))
 
 keys_small : (keys : List ℕ) → AreBytes keys → list_all (λ k. nat_lt k 256) keys ≡ true
 keys_small [] small = refl
@@ -54,10 +54,10 @@ passes_too : (b : Bool) → (b && true) ≡ b
 passes_too true = refl
 passes_too false = refl
 
-entry_told : (e : Entry) → e.file < 4294967296 → is_name e.key.owner ≡ true → is_name e.key.name ≡ true → e.base < 4294967296 → e.primary < 4294967296 → e.directory < 4294967296 → e.used < 4294967296
+entry_known : (e : Entry) → e.file < 4294967296 → is_name e.key.owner ≡ true → is_name e.key.name ≡ true → e.base < 4294967296 → e.primary < 4294967296 → e.directory < 4294967296 → e.used < 4294967296
     → AreBytes e.keys → is_entry e ≡ is_in_order e
 unfolding is_entry
-entry_told e file owner name base primary directory used keys = λ i.
+entry_known e file owner name base primary directory used keys = λ i.
     nat_le 16 e.file
     && (lt-ltb e.file (2 ^ 32) file i
     && (owner i
@@ -103,6 +103,6 @@ entry_where bytes small = tested (entry_in bytes) is_entry is_in_order entry_byt
     let s = bind_some (spec_of (slice_index rest 0)) _ e n.2 in
     let same = same_Some _ e s.2 in
     subst (λ (e : Entry). is_entry e ≡ is_in_order e) same
-    (entry_told (fields_in (little_from 0 4 bytes) (key_of o.0 n.0) s.0 rest) (little_from-lt 0 4 bytes small) (named (take 12 (drop 4 bytes)) o.0 o.1) (named (take 12 (drop 16 bytes)) n.0 n.1)
+    (entry_known (fields_in (little_from 0 4 bytes) (key_of o.0 n.0) s.0 rest) (little_from-lt 0 4 bytes small) (named (take 12 (drop 4 bytes)) o.0 o.1) (named (take 12 (drop 16 bytes)) n.0 n.1)
     (little_from-lt 1 4 rest some) (little_from-lt 5 4 rest some) (little_from-lt 9 4 rest some) (little_from-lt 13 4 rest some)
     (bytes_taken (slice_index rest 17) (drop 18 rest) (bytes_dropped 18 rest some))))

@@ -1,6 +1,6 @@
 -- What the schema decides of a change.
 use Rattle.std.proofs.Common.{◌≡◌, refl, sym, ap, ◌∙◌, true, false, Bool, IsTrue, List, Option, Some, None, is_some, Result, Ok, Err, IfOk}
-use Rattle.am_traits.specs.declared.fault.BaseFault.{BaseFault}
+use Rattle.base_trait.specs.declared.fault.BaseFault.{BaseFault}
 use Rattle.calculus.specs.declared.query.RelKey.{RelKey}
 use Rattle.calculus.specs.declared.schema.Attr.{Attr}
 use Rattle.calculus.specs.declared.change.DbChange.TheVariants as change

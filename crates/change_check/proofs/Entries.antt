@@ -6,7 +6,7 @@ use Rattle.calculus.specs.declared.schema.RelInfo.{RelInfo}
 use Rattle.calculus.specs.Database.{Db, Relation, entry_at}
 use Rattle.calculus.specs.Catalogue.{is_catalogue_name}
 use Rattle.calculus.specs.IsDatabase.{IsDatabase}
-use Rattle.am_traits.specs.Told.{known_at}
+use Rattle.base_trait.specs.Known.{known_at}
 use Rattle.quel_refusals.proofs.Entries.{no_catalogue, named_apart}
 
 -- under a name that is no catalogue's, all that is known is an entry

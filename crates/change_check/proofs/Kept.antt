@@ -8,7 +8,7 @@ use Rattle.calculus.specs.declared.schema.Spec.TheVariants as spec
 use Rattle.calculus.specs.Keys.{same_key}
 use Rattle.calculus.specs.Lists.{is_any}
 use Rattle.calculus.specs.Database.{Db, Relation, Index, View, entry_at, relation_at, view_at, index_at, is_relation}
-use Rattle.calculus.specs.IsDatabase.{IsDatabase, index_stands, keys_stand, structure_stands, view_info_stands}
+use Rattle.calculus.specs.IsDatabase.{IsDatabase, valid_index, keys_stand, valid_structure, valid_view_info}
 use Rattle.calculus.specs.Stored.{attrs_at}
 use Rattle.calculus.specs.Structures.{is_structure, is_keyed, is_view, is_index}
 use Rattle.quel_meaning.proofs.DatabaseFacts.{found_passes}
@@ -16,7 +16,7 @@ use Rattle.plan_laws.proofs.RowsChanged.{its_attrs}
 use Rattle.quel_names.proofs.Known.{entry_parts}
 use Rattle.change_check.specs.Kept.{kept_info}
 
-kept_structure : (info : RelInfo) → structure_stands info ≡ true → kept_info (Some info) ≡ Some info
+kept_structure : (info : RelInfo) → valid_structure info ≡ true → kept_info (Some info) ≡ Some info
 kept_structure info h = go info.spec h
   where
     go : (s : Spec) → (elim (is_keyed s) as (λ b. Bool) [
@@ -29,7 +29,7 @@ kept_structure info h = go info.spec h
     go spec.View h = absurd (cc h)
     go spec.Index h = absurd (cc h)
 
-kept_view : (info : RelInfo) → view_info_stands info ≡ true → kept_info (Some info) ≡ None
+kept_view : (info : RelInfo) → valid_view_info info ≡ true → kept_info (Some info) ≡ None
 kept_view info h = go info.spec h
   where
     go : (s : Spec) → (is_view s && not (is_any info.keys)) ≡ true
@@ -40,7 +40,7 @@ kept_view info h = go info.spec h
     go spec.View h = refl
     go spec.Index h = absurd (cc h)
 
-kept_index : (db : Db) (x : Index) → index_stands db x ≡ true → kept_info (Some x.info) ≡ None
+kept_index : (db : Db) (x : Index) → valid_index db x ≡ true → kept_info (Some x.info) ≡ None
 kept_index db x h = go x.info.spec h
   where
     go : (s : Spec) → (is_index s && (is_relation db x.base && (not (is_any x.info.attrs) && (is_any x.info.keys && keys_stand (attrs_at db x.base) x.info.keys)))) ≡ true
@@ -58,10 +58,10 @@ kept_is db is key = ap kept_info (entry_parts db key) ∙ go (relation_at db key
     go : (r : Option Relation) → relation_at db key ≡ r → (v : Option View) → view_at db key ≡ v → (x : Option Index) → index_at db key ≡ x
         → kept_info (option_or (option_map (λ r. r.info) r) (option_or (option_map (λ v. v.info) v) (option_map (λ x. x.info) x))) ≡ option_map (λ r. r.info) r
     go (Some r) e v f x g =
-        kept_structure r.info (found_passes (λ (r : Relation). same_key r.info.key key) (λ (r : Relation). structure_stands r.info) db.relations r is.structures_stand e)
+        kept_structure r.info (found_passes (λ (r : Relation). same_key r.info.key key) (λ (r : Relation). valid_structure r.info) db.relations r is.structures_stand e)
     go None e (Some v) f x g =
-        kept_view v.info (found_passes (λ (v : View). same_key v.info.key key) (λ (v : View). view_info_stands v.info) db.views v is.view_infos_stand f)
-    go None e None f (Some x) g = kept_index db x (found_passes (λ (x : Index). same_key x.info.key key) (index_stands db) db.indexes x is.indexes_stand g)
+        kept_view v.info (found_passes (λ (v : View). same_key v.info.key key) (λ (v : View). valid_view_info v.info) db.views v is.view_infos_stand f)
+    go None e None f (Some x) g = kept_index db x (found_passes (λ (x : Index). same_key x.info.key key) (valid_index db) db.indexes x is.indexes_stand g)
     go None e None f None g = refl
 
 -- something is known of it exactly where it is there

@@ -9,7 +9,7 @@ use Rattle.calculus.specs.declared.schema.Permit.{Permit}
 use Rattle.calculus.specs.declared.schema.Rule.{Rule}
 use Rattle.calculus.specs.Change.{permit_numbers, rule_numbers}
 use Rattle.calculus.specs.Database.{Db, is_relation}
-use Rattle.calculus.specs.IsDatabase.{row_qual_stands, permit_attrs_stand, user_is_named}
+use Rattle.calculus.specs.IsDatabase.{valid_row_qual, permit_attrs_stand, user_is_named}
 use Rattle.calculus.specs.Spelled.{qual_is_spelled}
 use Rattle.calculus.specs.Storable.{row_qual_is_storable, permit_lists_are_storable}
 use Rattle.calculus.specs.QueryParts.{qual_aggregates}
@@ -24,7 +24,7 @@ use Rattle.view_sizes.proofs.DepthForms.{qual_alone}
 use Rattle.change_check.proofs.Parts.{also, turned}
 
 -- in a qualification over a row whose kinds fit stands no aggregate
-pub qual_none : (db : Db) (rel : RelKey) (q : QQual) → row_qual_stands db rel q ≡ true → qual_aggregates q ≡ []
+pub qual_none : (db : Db) (rel : RelKey) (q : QQual) → valid_row_qual db rel q ≡ true → qual_aggregates q ≡ []
 qual_none db rel q h = query_plain db (query (rel ∷ []) [] q) h
 
 -- where none stands its depth is its levels, and its constants are those of their types
@@ -39,9 +39,9 @@ three true true c d = refl
 
 -- what a rule must have
 pub rule_parts : (db : Db) (rel : RelKey) (rule : Rule)
-    → (is_relation db rel && ((row_qual_stands db rel rule.qual && row_qual_is_storable rule.qual) && number_is_free 100 (rule_numbers db rel) rule.number)) ≡ rule_is_fit db rel rule
+    → (is_relation db rel && ((valid_row_qual db rel rule.qual && row_qual_is_storable rule.qual) && number_is_free 100 (rule_numbers db rel) rule.number)) ≡ rule_is_fit db rel rule
 unfolding rule_is_fit
-rule_parts db rel rule = three (is_relation db rel) (row_qual_stands db rel rule.qual) (row_qual_is_storable rule.qual) (number_is_free 100 (rule_numbers db rel) rule.number)
+rule_parts db rel rule = three (is_relation db rel) (valid_row_qual db rel rule.qual) (row_qual_is_storable rule.qual) (number_is_free 100 (rule_numbers db rel) rule.number)
 
 -- the same parts, in another order
 eight : (a b c f p q s n : Bool) → (a && (b && ((c && f) && ((p && (q && s)) && n)))) ≡ ((a && (b && (c && (p && q)))) && (s && (f && n)))
@@ -63,15 +63,15 @@ as_many (a ∷ attrs) = ap suc (as_many attrs)
 -- what a permit must have
 pub permit_parts : (db : Db) (rel : RelKey) (permit : Permit)
     → ((user_is_named permit.user && permit_lists_are_storable permit) && ((is_relation db rel && bytes_eq rel.owner db.dba)
-    && ((list_all (λ a. nat_lt a (length (kinds_at db rel))) permit.attrs && (row_qual_stands db rel permit.qual && row_qual_is_storable permit.qual))
+    && ((list_all (λ a. nat_lt a (length (kinds_at db rel))) permit.attrs && (valid_row_qual db rel permit.qual && row_qual_is_storable permit.qual))
     && number_is_free 100 (permit_numbers db rel) permit.number))) ≡ permit_is_fit db rel permit
 unfolding permit_is_fit
 permit_parts db rel permit =
     turned (is_relation db rel) (bytes_eq rel.owner db.dba) (user_is_named permit.user && permit_lists_are_storable permit)
-    ((list_all (λ a. nat_lt a (length (kinds_at db rel))) permit.attrs && (row_qual_stands db rel permit.qual && row_qual_is_storable permit.qual))
+    ((list_all (λ a. nat_lt a (length (kinds_at db rel))) permit.attrs && (valid_row_qual db rel permit.qual && row_qual_is_storable permit.qual))
     && number_is_free 100 (permit_numbers db rel) permit.number)
     ∙ ap (λ n. is_relation db rel && (bytes_eq rel.owner db.dba && ((user_is_named permit.user && permit_lists_are_storable permit)
-    && ((list_all (λ a. nat_lt a n) permit.attrs && (row_qual_stands db rel permit.qual && row_qual_is_storable permit.qual))
+    && ((list_all (λ a. nat_lt a n) permit.attrs && (valid_row_qual db rel permit.qual && row_qual_is_storable permit.qual))
     && number_is_free 100 (permit_numbers db rel) permit.number)))) (as_many (attrs_at db rel))
-    ∙ eight (is_relation db rel) (bytes_eq rel.owner db.dba) (user_is_named permit.user) (permit_lists_are_storable permit) (permit_attrs_stand db rel permit.attrs) (row_qual_stands db rel permit.qual)
+    ∙ eight (is_relation db rel) (bytes_eq rel.owner db.dba) (user_is_named permit.user) (permit_lists_are_storable permit) (permit_attrs_stand db rel permit.attrs) (valid_row_qual db rel permit.qual)
     (row_qual_is_storable permit.qual) (number_is_free 100 (permit_numbers db rel) permit.number)

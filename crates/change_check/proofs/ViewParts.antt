@@ -3,7 +3,7 @@ use Rattle.std.proofs.Common.{◌≡◌, refl, sym, ap, ◌∙◌, nat_le, Bool,
 use Rattle.calculus.specs.declared.query.Query.{Query}
 use Rattle.calculus.specs.declared.schema.RelInfo.{RelInfo}
 use Rattle.calculus.specs.Database.{Db}
-use Rattle.calculus.specs.IsDatabase.{attrs_are_targets, attrs_stand, query_stands, vars_are_there, view_info_stands}
+use Rattle.calculus.specs.IsDatabase.{attrs_are_targets, attrs_stand, valid_query, vars_are_there, valid_view_info}
 use Rattle.calculus.specs.QueryParts.{vars_of, targets_of}
 use Rattle.calculus.specs.Sizes.{expanded_variables, query_level, query_size, variables}
 use Rattle.calculus.specs.Storable.{query_is_storable}
@@ -17,12 +17,12 @@ three true true c r = refl
 
 -- what a view must have
 pub view_parts : (db : Db) (info : RelInfo) (q : Query)
-    → (key_is_free db info.key && ((view_info_stands info && (attrs_stand info.attrs && attrs_are_targets info.attrs (targets_of q))) && (vars_are_there db q && (not (is_too_high (query_level db q)) && (query_stands db q && view_is_small db q)))))
+    → (key_is_free db info.key && ((valid_view_info info && (attrs_stand info.attrs && attrs_are_targets info.attrs (targets_of q))) && (vars_are_there db q && (not (is_too_high (query_level db q)) && (valid_query db q && view_is_small db q)))))
     ≡ view_is_fit db info q
 unfolding view_is_fit
 view_parts db info q =
     ap (λ b. key_is_free db info.key && b)
-    (three (view_info_stands info) (attrs_stand info.attrs) (attrs_are_targets info.attrs (targets_of q)) (vars_are_there db q && (not (is_too_high (query_level db q)) && (query_stands db q && view_is_small db q))))
+    (three (valid_view_info info) (attrs_stand info.attrs) (attrs_are_targets info.attrs (targets_of q)) (vars_are_there db q && (not (is_too_high (query_level db q)) && (valid_query db q && view_is_small db q))))
 
 -- too many variables are listed
 pub lists_many : (db : Db) (q : Query) → nat_le (length (vars_of q)) 50 ≡ false → false ≡ view_is_small db q

@@ -1,7 +1,7 @@
 //! Whether a database may take a change.
 
 ghost use Rattle.std.specs.Prelude.{◌≡◌, ◌↔◌, List, true, false, IfOk, IsTrue, Some};
-ghost use Rattle.am_traits.specs.Causes.{HasCause};
+ghost use Rattle.base_trait.specs.Causes.{HasCause};
 ghost use Rattle.calculus.specs.Change.{IsLawful};
 ghost use Rattle.calculus.specs.Database.{Db};
 ghost use Rattle.calculus.specs.Rows.{Row as Values};
@@ -18,13 +18,13 @@ use crate::relations::relation_is_fit;
 use crate::rows::rows_are_fit;
 use crate::structures::structure_is_fit;
 use crate::views::view_is_fit;
-use am_traits::{Base, BaseFault};
+use base_trait::{Base, BaseFault};
 use calculus::DbChange;
 use std::alloc::Global;
 
-/// Whether the change may be laid, by the test of its kind.
+/// Whether the change may be applied, by the test of its kind.
 fn change_is_fit<B: Base>(alloc: Global, base: &mut B, change: &DbChange) -> Result<bool, BaseFault>
-    ensures told { (db : Db) → B.database base.old ≡ Some db → IfOk result (λ fit. fit ≡ change_is_fit db change.now) }
+    ensures known { (db : Db) → B.database base.old ≡ Some db → IfOk result (λ fit. fit ≡ change_is_fit db change.now) }
     ensures by_schema { (s : Db) → B.schema base.old ≡ Some s → is_of_rows change.now ≡ false → IfOk result (λ fit. fit ≡ change_is_fit s change.now) }
     ensures rows_by_schema { (s : Db) → B.schema base.old ≡ Some s → (rel : Key) (remove add : List Values) → change.now ≡ OfRows rel remove add
         → IfOk result (λ fit. fit ≡ true → rows_stand s rel remove add ≡ true) }
@@ -60,14 +60,14 @@ fn change_is_fit<B: Base>(alloc: Global, base: &mut B, change: &DbChange) -> Res
 /// Whether a database may take a change: true exactly where the change is lawful. Asks the database
 /// part by part, up to the first that is false, and doesn't change it.
 ///
-/// The first question fixes the schema. By that alone the answer is told of each change but one of rows,
+/// The first question fixes the schema. By that alone the answer is known of each change but one of rows,
 /// which is refused, too, where its rows don't differ, don't fit, or have no relation.
 pub fn fit_change<B: Base>(
     alloc: Global,
     base: &mut B,
     change: &DbChange,
 ) -> Result<bool, BaseFault>
-    ensures told { (db : Db) → B.database base.old ≡ Some db → IfOk result (λ fit. (fit ≡ true) ↔ IsLawful db change.now) }
+    ensures known { (db : Db) → B.database base.old ≡ Some db → IfOk result (λ fit. (fit ≡ true) ↔ IsLawful db change.now) }
     ensures by_schema { IsTrue B.fixes → (s : Db) → B.schema base.new ≡ Some s → is_of_rows change.now ≡ false
         → IfOk result (λ fit. (fit ≡ true) ↔ IsLawful s change.now) }
     ensures rows_by_schema { IsTrue B.fixes → (s : Db) → B.schema base.new ≡ Some s → (rel : Key) (remove add : List Values) → change.now ≡ OfRows rel remove add

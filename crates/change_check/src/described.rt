@@ -2,7 +2,7 @@
 
 ghost use Rattle.std.specs.Prelude.{◌≡◌, ◌≤◌, map, length, nat_eq, nat_le, nat_lt, sum_by, IfOk, ◌&&◌};
 ghost use Rattle.std.specs.List.{list_all, list_any};
-ghost use Rattle.calculus.specs.IsDatabase.{are_stored, attrs_stand, is_domain, is_kind, is_stored_kind, keys_stand, kind_bytes, structure_stands, view_info_stands};
+ghost use Rattle.calculus.specs.IsDatabase.{are_stored, attrs_stand, is_domain, is_kind, is_stored_kind, keys_stand, kind_bytes, valid_structure, valid_view_info};
 ghost use Rattle.calculus.specs.Lists.{differ_by, is_any};
 ghost use Rattle.calculus.specs.Name.{is_name};
 ghost use Rattle.calculus.specs.declared.query.RelKey.{RelKey as Key};
@@ -194,8 +194,8 @@ pub fn some_keys_stand(attrs: &[Attr], keys: &[u8]) -> bool
 
 /// Whether a relation with these attributes may be stored so: a heap without keys, or a hash or an
 /// ISAM structure with at least one.
-pub(crate) fn structure_stands(to: Spec, attrs: &[Attr], keys: &[u8]) -> bool
-    ensures { (key : Key) → result ≡ structure_stands (record { key = key; spec = to; attrs = attrs.now; keys = keys.now }) }
+pub(crate) fn valid_structure(to: Spec, attrs: &[Attr], keys: &[u8]) -> bool
+    ensures { (key : Key) → result ≡ valid_structure (record { key = key; spec = to; attrs = attrs.now; keys = keys.now }) }
 {
     match to {
         Spec::Heap => keys.is_empty(),
@@ -207,8 +207,8 @@ pub(crate) fn structure_stands(to: Spec, attrs: &[Attr], keys: &[u8]) -> bool
 }
 
 /// Whether it is kept as a view, which has no keys.
-pub(crate) fn view_info_stands(info: &RelInfo) -> bool
-    ensures { result ≡ view_info_stands info.now }
+pub(crate) fn valid_view_info(info: &RelInfo) -> bool
+    ensures { result ≡ valid_view_info info.now }
 {
     match info.spec {
         Spec::Heap => false,

@@ -2,20 +2,20 @@
 
 ghost use Rattle.std.specs.Prelude.{◌≡◌, IfOk, Some};
 ghost use Rattle.std.specs.List.{list_all, list_any};
-ghost use Rattle.am_traits.specs.Causes.{HasCause};
+ghost use Rattle.base_trait.specs.Causes.{HasCause};
 ghost use Rattle.calculus.specs.Database.{Db, is_there};
 ghost use Rattle.calculus.specs.Keys.{same_key};
 ghost use Rattle.calculus.specs.Lists.{differ_by};
 ghost use Rattle.change_laws.specs.Fit.{destroying_is_fit, is_named_outside};
 
 use crate::keys::is_there;
-use am_traits::{Base, BaseFault};
+use base_trait::{Base, BaseFault};
 use calculus::RelKey;
 use std::alloc::Global;
 
 /// Whether a relation, a view or an index stands under each key.
 fn are_there<B: Base>(alloc: Global, base: &mut B, rels: &[RelKey]) -> Result<bool, BaseFault>
-    ensures told { (db : Db) → B.schema base.old ≡ Some db → IfOk result (λ there. there ≡ list_all (is_there db) rels.now) }
+    ensures known { (db : Db) → B.schema base.old ≡ Some db → IfOk result (λ there. there ≡ list_all (is_there db) rels.now) }
     ensures kept { B.database base.new ≡ B.database base.old }
     ensures stays { (s : Db) → B.schema base.old ≡ Some s → B.schema base.new ≡ Some s }
     ensures asked { (b : B) → B.asked b base.old → B.asked b base.new }
@@ -70,7 +70,7 @@ fn is_named_outside<B: Base>(
     all: &[RelKey],
     key: &RelKey,
 ) -> Result<bool, BaseFault>
-    ensures told { (db : Db) → B.schema base.old ≡ Some db → IfOk result (λ named. named ≡ is_named_outside db all.now key.now) }
+    ensures known { (db : Db) → B.schema base.old ≡ Some db → IfOk result (λ named. named ≡ is_named_outside db all.now key.now) }
     ensures kept { B.database base.new ≡ B.database base.old }
     ensures stays { (s : Db) → B.schema base.old ≡ Some s → B.schema base.new ≡ Some s }
     ensures asked { (b : B) → B.asked b base.old → B.asked b base.new }
@@ -86,7 +86,7 @@ fn some_named<B: Base>(
     all: &[RelKey],
     rels: &[RelKey],
 ) -> Result<bool, BaseFault>
-    ensures told { (db : Db) → B.schema base.old ≡ Some db → IfOk result (λ named. named ≡ list_any (is_named_outside db all.now) rels.now) }
+    ensures known { (db : Db) → B.schema base.old ≡ Some db → IfOk result (λ named. named ≡ list_any (is_named_outside db all.now) rels.now) }
     ensures kept { B.database base.new ≡ B.database base.old }
     ensures stays { (s : Db) → B.schema base.old ≡ Some s → B.schema base.new ≡ Some s }
     ensures asked { (b : B) → B.asked b base.old → B.asked b base.new }
@@ -109,7 +109,7 @@ pub(crate) fn destroying_is_fit<B: Base>(
     base: &mut B,
     rels: &[RelKey],
 ) -> Result<bool, BaseFault>
-    ensures told { (db : Db) → B.schema base.old ≡ Some db → IfOk result (λ fit. fit ≡ destroying_is_fit db rels.now) }
+    ensures known { (db : Db) → B.schema base.old ≡ Some db → IfOk result (λ fit. fit ≡ destroying_is_fit db rels.now) }
     ensures kept { B.database base.new ≡ B.database base.old }
     ensures stays { (s : Db) → B.schema base.old ≡ Some s → B.schema base.new ≡ Some s }
     ensures asked { (b : B) → B.asked b base.old → B.asked b base.new }

@@ -1,7 +1,7 @@
 //! An index that is made.
 
 ghost use Rattle.std.specs.Prelude.{◌≡◌, true, IfOk, Some};
-ghost use Rattle.am_traits.specs.Causes.{HasCause};
+ghost use Rattle.base_trait.specs.Causes.{HasCause};
 ghost use Rattle.calculus.specs.Database.{Db, is_relation};
 ghost use Rattle.calculus.specs.Keys.{key_of};
 ghost use Rattle.calculus.specs.Stored.{attrs_at};
@@ -9,7 +9,7 @@ ghost use Rattle.change_laws.specs.Fit.{index_is_fit};
 
 use crate::described::some_keys_stand;
 use crate::keys::{key_is_free, relation};
-use am_traits::{Base, BaseFault};
+use base_trait::{Base, BaseFault};
 use calculus::{Attr, Name, OutOfMemory, RelKey};
 use memory::both;
 use std::alloc::Global;
@@ -32,7 +32,7 @@ fn index_has_parts<B: Base>(
     name: &Name,
     keys: &[u8],
 ) -> Result<bool, BaseFault>
-    ensures told { (db : Db) → B.schema base.old ≡ Some db → is_relation db rel.now ≡ true → attrs_at db rel.now ≡ attrs.now
+    ensures known { (db : Db) → B.schema base.old ≡ Some db → is_relation db rel.now ≡ true → attrs_at db rel.now ≡ attrs.now
         → IfOk result (λ fit. fit ≡ index_is_fit db rel.now name.now keys.now) }
     ensures kept { B.database base.new ≡ B.database base.old }
     ensures stays { (s : Db) → B.schema base.old ≡ Some s → B.schema base.new ≡ Some s }
@@ -55,7 +55,7 @@ pub(crate) fn index_is_fit<B: Base>(
     name: &Name,
     keys: &[u8],
 ) -> Result<bool, BaseFault>
-    ensures told { (db : Db) → B.schema base.old ≡ Some db → IfOk result (λ fit. fit ≡ index_is_fit db rel.now name.now keys.now) }
+    ensures known { (db : Db) → B.schema base.old ≡ Some db → IfOk result (λ fit. fit ≡ index_is_fit db rel.now name.now keys.now) }
     ensures kept { B.database base.new ≡ B.database base.old }
     ensures stays { (s : Db) → B.schema base.old ≡ Some s → B.schema base.new ≡ Some s }
     ensures asked { (b : B) → B.asked b base.old → B.asked b base.new }

@@ -1,14 +1,14 @@
 //! What stands under a key, and whether something new may.
 
 ghost use Rattle.std.specs.Prelude.{◌≡◌, IfOk, Some, option_map};
-ghost use Rattle.am_traits.specs.Causes.{HasCause};
+ghost use Rattle.base_trait.specs.Causes.{HasCause};
 ghost use Rattle.calculus.specs.Catalogue.{is_catalogue_name};
 ghost use Rattle.calculus.specs.Database.{Db, entry_at, is_relation, is_there, relation_at};
 ghost use Rattle.calculus.specs.IsDatabase.{key_is_named};
 ghost use Rattle.change_check.specs.Kept.{kept_info};
 ghost use Rattle.change_laws.specs.Fit.{key_is_free};
 
-use am_traits::{Base, BaseFault};
+use base_trait::{Base, BaseFault};
 use calculus::{RelInfo, RelKey, Spec};
 use quel_refusals::{is_catalogue_name, is_full};
 use std::alloc::Global;
@@ -19,7 +19,7 @@ pub(crate) fn entry<B: Base>(
     base: &mut B,
     key: &RelKey,
 ) -> Result<Option<RelInfo>, BaseFault>
-    ensures told { (db : Db) → B.schema base.old ≡ Some db → IfOk result (λ info. info ≡ entry_at db key.now) }
+    ensures known { (db : Db) → B.schema base.old ≡ Some db → IfOk result (λ info. info ≡ entry_at db key.now) }
     ensures kept { B.database base.new ≡ B.database base.old }
     ensures stays { (s : Db) → B.schema base.old ≡ Some s → B.schema base.new ≡ Some s }
     ensures asked { (b : B) → B.asked b base.old → B.asked b base.new }
@@ -37,7 +37,7 @@ pub(crate) fn is_there<B: Base>(
     base: &mut B,
     key: &RelKey,
 ) -> Result<bool, BaseFault>
-    ensures told { (db : Db) → B.schema base.old ≡ Some db → IfOk result (λ there. there ≡ is_there db key.now) }
+    ensures known { (db : Db) → B.schema base.old ≡ Some db → IfOk result (λ there. there ≡ is_there db key.now) }
     ensures kept { B.database base.new ≡ B.database base.old }
     ensures stays { (s : Db) → B.schema base.old ≡ Some s → B.schema base.new ≡ Some s }
     ensures asked { (b : B) → B.asked b base.old → B.asked b base.new }
@@ -69,7 +69,7 @@ pub(crate) fn relation<B: Base>(
     base: &mut B,
     key: &RelKey,
 ) -> Result<Option<RelInfo>, BaseFault>
-    ensures told { (db : Db) → B.schema base.old ≡ Some db → IfOk result (λ info. info ≡ option_map (λ r. r.info) (relation_at db key.now)) }
+    ensures known { (db : Db) → B.schema base.old ≡ Some db → IfOk result (λ info. info ≡ option_map (λ r. r.info) (relation_at db key.now)) }
     ensures kept { B.database base.new ≡ B.database base.old }
     ensures stays { (s : Db) → B.schema base.old ≡ Some s → B.schema base.new ≡ Some s }
     ensures asked { (b : B) → B.asked b base.old → B.asked b base.new }
@@ -81,7 +81,7 @@ pub(crate) fn relation<B: Base>(
 /// Whether a base relation stands under a key.
 #[tactic(auto, using(crate::proofs::Kept::there_where_known))]
 pub fn is_relation<B: Base>(alloc: Global, base: &mut B, key: &RelKey) -> Result<bool, BaseFault>
-    ensures told { (db : Db) → B.schema base.old ≡ Some db → IfOk result (λ there. there ≡ is_relation db key.now) }
+    ensures known { (db : Db) → B.schema base.old ≡ Some db → IfOk result (λ there. there ≡ is_relation db key.now) }
     ensures kept { B.database base.new ≡ B.database base.old }
     ensures stays { (s : Db) → B.schema base.old ≡ Some s → B.schema base.new ≡ Some s }
     ensures asked { (b : B) → B.asked b base.old → B.asked b base.new }
@@ -108,7 +108,7 @@ pub(crate) fn key_is_free<B: Base>(
     base: &mut B,
     key: &RelKey,
 ) -> Result<bool, BaseFault>
-    ensures told { (db : Db) → B.schema base.old ≡ Some db → IfOk result (λ free. free ≡ key_is_free db key.now) }
+    ensures known { (db : Db) → B.schema base.old ≡ Some db → IfOk result (λ free. free ≡ key_is_free db key.now) }
     ensures kept { B.database base.new ≡ B.database base.old }
     ensures stays { (s : Db) → B.schema base.old ≡ Some s → B.schema base.new ≡ Some s }
     ensures asked { (b : B) → B.asked b base.old → B.asked b base.new }

@@ -20,4 +20,4 @@ pub use destroying::{keys_differ, same_key};
 pub use keys::is_relation;
 pub use permits::{are_places, attrs_are_places, row_qual_is_fit};
 pub use relations::relation_attrs_stand;
-pub use views::{query_stands, view_query_is_fit};
+pub use views::{valid_query, view_query_is_fit};

@@ -2,15 +2,15 @@
 
 ghost use Rattle.std.specs.Prelude.{◌≡◌, ◌&&◌, nat_eq, IfOk, Some};
 ghost use Rattle.std.specs.List.{list_all, list_any};
-ghost use Rattle.am_traits.specs.Causes.{HasCause};
+ghost use Rattle.base_trait.specs.Causes.{HasCause};
 ghost use Rattle.calculus.specs.Database.{Db};
 ghost use Rattle.calculus.specs.Lists.{differ_by, has_number};
 ghost use Rattle.change_laws.specs.Fit.{permits_may_go, rules_may_go};
 
 use crate::keys::is_relation;
-use am_traits::{Base, BaseFault};
+use base_trait::{Base, BaseFault};
 use calculus::RelKey;
-use quel_refusals::{standing_permits, standing_rules};
+use quel_refusals::{existing_permits, existing_rules};
 use std::alloc::Global;
 
 /// Whether the number is one of these.
@@ -64,7 +64,7 @@ pub(crate) fn permits_may_go<B: Base>(
     rel: &RelKey,
     numbers: &[u32],
 ) -> Result<bool, BaseFault>
-    ensures told { (db : Db) → B.schema base.old ≡ Some db → IfOk result (λ fit. fit ≡ permits_may_go db rel.now numbers.now) }
+    ensures known { (db : Db) → B.schema base.old ≡ Some db → IfOk result (λ fit. fit ≡ permits_may_go db rel.now numbers.now) }
     ensures kept { B.database base.new ≡ B.database base.old }
     ensures stays { (s : Db) → B.schema base.old ≡ Some s → B.schema base.new ≡ Some s }
     ensures asked { (b : B) → B.asked b base.old → B.asked b base.new }
@@ -73,7 +73,7 @@ pub(crate) fn permits_may_go<B: Base>(
     if !is_relation(alloc, base, rel)? {
         return Ok(false);
     }
-    let standing = standing_permits(alloc, base, rel)?;
+    let standing = existing_permits(alloc, base, rel)?;
     Ok(are_listed_once(&standing, numbers))
 }
 
@@ -86,7 +86,7 @@ pub(crate) fn rules_may_go<B: Base>(
     rel: &RelKey,
     numbers: &[u32],
 ) -> Result<bool, BaseFault>
-    ensures told { (db : Db) → B.schema base.old ≡ Some db → IfOk result (λ fit. fit ≡ rules_may_go db rel.now numbers.now) }
+    ensures known { (db : Db) → B.schema base.old ≡ Some db → IfOk result (λ fit. fit ≡ rules_may_go db rel.now numbers.now) }
     ensures kept { B.database base.new ≡ B.database base.old }
     ensures stays { (s : Db) → B.schema base.old ≡ Some s → B.schema base.new ≡ Some s }
     ensures asked { (b : B) → B.asked b base.old → B.asked b base.new }
@@ -95,6 +95,6 @@ pub(crate) fn rules_may_go<B: Base>(
     if !is_relation(alloc, base, rel)? {
         return Ok(false);
     }
-    let standing = standing_rules(alloc, base, rel)?;
+    let standing = existing_rules(alloc, base, rel)?;
     Ok(are_listed_once(&standing, numbers))
 }

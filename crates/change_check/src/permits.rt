@@ -2,10 +2,10 @@
 
 ghost use Rattle.std.specs.Prelude.{◌≡◌, ◌∷◌, [], ◌&&◌, length, nat_le, nat_lt, IfOk, Some, bytes_eq};
 ghost use Rattle.std.specs.List.{list_all};
-ghost use Rattle.am_traits.specs.Causes.{HasCause};
+ghost use Rattle.base_trait.specs.Causes.{HasCause};
 ghost use Rattle.calculus.specs.Change.{permit_numbers, rule_numbers};
 ghost use Rattle.calculus.specs.Database.{Db, is_relation};
-ghost use Rattle.calculus.specs.IsDatabase.{row_qual_stands, user_is_named};
+ghost use Rattle.calculus.specs.IsDatabase.{valid_row_qual, user_is_named};
 ghost use Rattle.calculus.specs.Kinds.{kinds_fit};
 ghost use Rattle.calculus.specs.QueryParts.{qual_aggregates};
 ghost use Rattle.calculus.specs.Sizes.{qual_size};
@@ -16,9 +16,10 @@ ghost use Rattle.change_laws.specs.Fit.{number_is_free, permit_is_fit, rule_is_f
 
 use crate::keys::is_relation;
 use crate::numbers::has_number;
-use am_traits::{Base, BaseFault};
+use base_trait::{Base, BaseFault};
 use calculus::{Kind, Name, OutOfMemory, Permit, QQual, RelKey, Rule, is_name, kinds_fit};
-use quel_refusals::{kinds_at, standing_permits, standing_rules};
+use ovqp::kinds_at;
+use quel_refusals::{existing_permits, existing_rules};
 use std::alloc::Global;
 use update_laws::qual_is_spelled;
 use view_sizes::{qual_depth, qual_size};
@@ -40,7 +41,7 @@ const ALL_RIGHTS: u8 = 15;
 
 /// Whether the administrator is the owner.
 fn is_administrators<B: Base>(alloc: Global, base: &mut B, rel: &RelKey) -> Result<bool, BaseFault>
-    ensures told { (db : Db) → B.schema base.old ≡ Some db → IfOk result (λ own. own ≡ bytes_eq rel.now.owner db.dba) }
+    ensures known { (db : Db) → B.schema base.old ≡ Some db → IfOk result (λ own. own ≡ bytes_eq rel.now.owner db.dba) }
     ensures kept { B.database base.new ≡ B.database base.old }
     ensures stays { (s : Db) → B.schema base.old ≡ Some s → B.schema base.new ≡ Some s }
     ensures asked { (b : B) → B.asked b base.old → B.asked b base.new }
@@ -102,7 +103,7 @@ pub fn row_qual_is_fit<B: Base>(
     rel: &RelKey,
     qual: &QQual,
 ) -> Result<bool, BaseFault>
-    ensures told { (db : Db) → B.schema base.old ≡ Some db → IfOk result (λ fit. fit ≡ (row_qual_stands db rel.now qual.now && row_qual_is_storable qual.now)) }
+    ensures known { (db : Db) → B.schema base.old ≡ Some db → IfOk result (λ fit. fit ≡ (valid_row_qual db rel.now qual.now && row_qual_is_storable qual.now)) }
     ensures kept { B.database base.new ≡ B.database base.old }
     ensures stays { (s : Db) → B.schema base.old ≡ Some s → B.schema base.new ≡ Some s }
     ensures asked { (b : B) → B.asked b base.old → B.asked b base.new }
@@ -122,7 +123,7 @@ pub fn attrs_are_places<B: Base>(
     rel: &RelKey,
     attrs: &[u8],
 ) -> Result<bool, BaseFault>
-    ensures told { (db : Db) → B.schema base.old ≡ Some db → IfOk result (λ fit. fit ≡ list_all (λ a. nat_lt a (length (kinds_at db rel.now))) attrs.now) }
+    ensures known { (db : Db) → B.schema base.old ≡ Some db → IfOk result (λ fit. fit ≡ list_all (λ a. nat_lt a (length (kinds_at db rel.now))) attrs.now) }
     ensures kept { B.database base.new ≡ B.database base.old }
     ensures stays { (s : Db) → B.schema base.old ≡ Some s → B.schema base.new ≡ Some s }
     ensures asked { (b : B) → B.asked b base.old → B.asked b base.new }
@@ -161,13 +162,13 @@ fn permit_number_is_free<B: Base>(
     rel: &RelKey,
     number: u32,
 ) -> Result<bool, BaseFault>
-    ensures told { (db : Db) → B.schema base.old ≡ Some db → IfOk result (λ free. free ≡ number_is_free 100 (permit_numbers db rel.now) number) }
+    ensures known { (db : Db) → B.schema base.old ≡ Some db → IfOk result (λ free. free ≡ number_is_free 100 (permit_numbers db rel.now) number) }
     ensures kept { B.database base.new ≡ B.database base.old }
     ensures stays { (s : Db) → B.schema base.old ≡ Some s → B.schema base.new ≡ Some s }
     ensures asked { (b : B) → B.asked b base.old → B.asked b base.new }
     ensures cause { HasCause (B.database base.old) (B.faults base.old) (B.faults base.new) result }
 {
-    let numbers = standing_permits(alloc, base, rel)?;
+    let numbers = existing_permits(alloc, base, rel)?;
     Ok(number_is_free(&numbers, number))
 }
 
@@ -178,13 +179,13 @@ fn rule_number_is_free<B: Base>(
     rel: &RelKey,
     number: u32,
 ) -> Result<bool, BaseFault>
-    ensures told { (db : Db) → B.schema base.old ≡ Some db → IfOk result (λ free. free ≡ number_is_free 100 (rule_numbers db rel.now) number) }
+    ensures known { (db : Db) → B.schema base.old ≡ Some db → IfOk result (λ free. free ≡ number_is_free 100 (rule_numbers db rel.now) number) }
     ensures kept { B.database base.new ≡ B.database base.old }
     ensures stays { (s : Db) → B.schema base.old ≡ Some s → B.schema base.new ≡ Some s }
     ensures asked { (b : B) → B.asked b base.old → B.asked b base.new }
     ensures cause { HasCause (B.database base.old) (B.faults base.old) (B.faults base.new) result }
 {
-    let numbers = standing_rules(alloc, base, rel)?;
+    let numbers = existing_rules(alloc, base, rel)?;
     Ok(number_is_free(&numbers, number))
 }
 
@@ -195,7 +196,7 @@ fn rule_has_parts<B: Base>(
     rel: &RelKey,
     rule: &Rule,
 ) -> Result<bool, BaseFault>
-    ensures told { (db : Db) → B.schema base.old ≡ Some db → IfOk result (λ fit. fit ≡ (is_relation db rel.now && ((row_qual_stands db rel.now rule.now.qual && row_qual_is_storable rule.now.qual) && number_is_free 100 (rule_numbers db rel.now) rule.now.number))) }
+    ensures known { (db : Db) → B.schema base.old ≡ Some db → IfOk result (λ fit. fit ≡ (is_relation db rel.now && ((valid_row_qual db rel.now rule.now.qual && row_qual_is_storable rule.now.qual) && number_is_free 100 (rule_numbers db rel.now) rule.now.number))) }
     ensures kept { B.database base.new ≡ B.database base.old }
     ensures stays { (s : Db) → B.schema base.old ≡ Some s → B.schema base.new ≡ Some s }
     ensures asked { (b : B) → B.asked b base.old → B.asked b base.new }
@@ -218,7 +219,7 @@ pub(crate) fn rule_is_fit<B: Base>(
     rel: &RelKey,
     rule: &Rule,
 ) -> Result<bool, BaseFault>
-    ensures told { (db : Db) → B.schema base.old ≡ Some db → IfOk result (λ fit. fit ≡ rule_is_fit db rel.now rule.now) }
+    ensures known { (db : Db) → B.schema base.old ≡ Some db → IfOk result (λ fit. fit ≡ rule_is_fit db rel.now rule.now) }
     ensures kept { B.database base.new ≡ B.database base.old }
     ensures stays { (s : Db) → B.schema base.old ≡ Some s → B.schema base.new ≡ Some s }
     ensures asked { (b : B) → B.asked b base.old → B.asked b base.new }
@@ -234,7 +235,7 @@ fn permit_covers<B: Base>(
     rel: &RelKey,
     permit: &Permit,
 ) -> Result<bool, BaseFault>
-    ensures told { (db : Db) → B.schema base.old ≡ Some db → IfOk result (λ fit. fit ≡ (list_all (λ a. nat_lt a (length (kinds_at db rel.now))) permit.now.attrs && (row_qual_stands db rel.now permit.now.qual && row_qual_is_storable permit.now.qual))) }
+    ensures known { (db : Db) → B.schema base.old ≡ Some db → IfOk result (λ fit. fit ≡ (list_all (λ a. nat_lt a (length (kinds_at db rel.now))) permit.now.attrs && (valid_row_qual db rel.now permit.now.qual && row_qual_is_storable permit.now.qual))) }
     ensures kept { B.database base.new ≡ B.database base.old }
     ensures stays { (s : Db) → B.schema base.old ≡ Some s → B.schema base.new ≡ Some s }
     ensures asked { (b : B) → B.asked b base.old → B.asked b base.new }
@@ -252,7 +253,7 @@ fn is_administrators_relation<B: Base>(
     base: &mut B,
     rel: &RelKey,
 ) -> Result<bool, BaseFault>
-    ensures told { (db : Db) → B.schema base.old ≡ Some db → IfOk result (λ own. own ≡ (is_relation db rel.now && bytes_eq rel.now.owner db.dba)) }
+    ensures known { (db : Db) → B.schema base.old ≡ Some db → IfOk result (λ own. own ≡ (is_relation db rel.now && bytes_eq rel.now.owner db.dba)) }
     ensures kept { B.database base.new ≡ B.database base.old }
     ensures stays { (s : Db) → B.schema base.old ≡ Some s → B.schema base.new ≡ Some s }
     ensures asked { (b : B) → B.asked b base.old → B.asked b base.new }
@@ -265,13 +266,13 @@ fn is_administrators_relation<B: Base>(
 }
 
 /// Whether what a permit covers stands, and its number is free.
-fn permit_stands<B: Base>(
+fn valid_permit<B: Base>(
     alloc: Global,
     base: &mut B,
     rel: &RelKey,
     permit: &Permit,
 ) -> Result<bool, BaseFault>
-    ensures told { (db : Db) → B.schema base.old ≡ Some db → IfOk result (λ fit. fit ≡ ((list_all (λ a. nat_lt a (length (kinds_at db rel.now))) permit.now.attrs && (row_qual_stands db rel.now permit.now.qual && row_qual_is_storable permit.now.qual)) && number_is_free 100 (permit_numbers db rel.now) permit.now.number)) }
+    ensures known { (db : Db) → B.schema base.old ≡ Some db → IfOk result (λ fit. fit ≡ ((list_all (λ a. nat_lt a (length (kinds_at db rel.now))) permit.now.attrs && (valid_row_qual db rel.now permit.now.qual && row_qual_is_storable permit.now.qual)) && number_is_free 100 (permit_numbers db rel.now) permit.now.number)) }
     ensures kept { B.database base.new ≡ B.database base.old }
     ensures stays { (s : Db) → B.schema base.old ≡ Some s → B.schema base.new ≡ Some s }
     ensures asked { (b : B) → B.asked b base.old → B.asked b base.new }
@@ -290,7 +291,7 @@ fn permit_has_parts<B: Base>(
     rel: &RelKey,
     permit: &Permit,
 ) -> Result<bool, BaseFault>
-    ensures told { (db : Db) → B.schema base.old ≡ Some db → IfOk result (λ fit. fit ≡ ((user_is_named permit.now.user && permit_lists_are_storable permit.now) && ((is_relation db rel.now && bytes_eq rel.now.owner db.dba) && ((list_all (λ a. nat_lt a (length (kinds_at db rel.now))) permit.now.attrs && (row_qual_stands db rel.now permit.now.qual && row_qual_is_storable permit.now.qual)) && number_is_free 100 (permit_numbers db rel.now) permit.now.number)))) }
+    ensures known { (db : Db) → B.schema base.old ≡ Some db → IfOk result (λ fit. fit ≡ ((user_is_named permit.now.user && permit_lists_are_storable permit.now) && ((is_relation db rel.now && bytes_eq rel.now.owner db.dba) && ((list_all (λ a. nat_lt a (length (kinds_at db rel.now))) permit.now.attrs && (valid_row_qual db rel.now permit.now.qual && row_qual_is_storable permit.now.qual)) && number_is_free 100 (permit_numbers db rel.now) permit.now.number)))) }
     ensures kept { B.database base.new ≡ B.database base.old }
     ensures stays { (s : Db) → B.schema base.old ≡ Some s → B.schema base.new ≡ Some s }
     ensures asked { (b : B) → B.asked b base.old → B.asked b base.new }
@@ -302,7 +303,7 @@ fn permit_has_parts<B: Base>(
     if !is_administrators_relation(alloc, base, rel)? {
         return Ok(false);
     }
-    permit_stands(alloc, base, rel, permit)
+    valid_permit(alloc, base, rel, permit)
 }
 
 /// Whether a permit may be made: it stands on a relation of the administrator's, is no larger than one
@@ -313,7 +314,7 @@ pub(crate) fn permit_is_fit<B: Base>(
     rel: &RelKey,
     permit: &Permit,
 ) -> Result<bool, BaseFault>
-    ensures told { (db : Db) → B.schema base.old ≡ Some db → IfOk result (λ fit. fit ≡ permit_is_fit db rel.now permit.now) }
+    ensures known { (db : Db) → B.schema base.old ≡ Some db → IfOk result (λ fit. fit ≡ permit_is_fit db rel.now permit.now) }
     ensures kept { B.database base.new ≡ B.database base.old }
     ensures stays { (s : Db) → B.schema base.old ≡ Some s → B.schema base.new ≡ Some s }
     ensures asked { (b : B) → B.asked b base.old → B.asked b base.new }

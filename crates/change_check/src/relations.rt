@@ -2,25 +2,25 @@
 
 ghost use Rattle.std.specs.Prelude.{◌≡◌, ◌&&◌, length, nat_le, IfOk, Some};
 ghost use Rattle.std.specs.List.{list_all};
-ghost use Rattle.am_traits.specs.Causes.{HasCause};
+ghost use Rattle.base_trait.specs.Causes.{HasCause};
 ghost use Rattle.calculus.specs.Change.{rows_differ};
 ghost use Rattle.calculus.specs.Database.{Db};
-ghost use Rattle.calculus.specs.IsDatabase.{are_stored, attrs_stand, row_fits, structure_stands};
+ghost use Rattle.calculus.specs.IsDatabase.{are_stored, attrs_stand, row_fits, valid_structure};
 ghost use Rattle.calculus.specs.Limits.{most_rows};
 ghost use Rattle.change_laws.specs.Fit.{relation_is_fit};
 
-use crate::described::{are_stored, attrs_stand, structure_stands};
+use crate::described::{are_stored, attrs_stand, valid_structure};
 use crate::keys::key_is_free;
 use crate::rows::{are_few, differ_and_fit};
-use am_traits::{Base, BaseFault};
+use base_trait::{Base, BaseFault};
 use calculus::{Attr, OutOfMemory, RelInfo, Row};
 use std::alloc::Global;
 
 /// Whether the structure is one for the attributes.
 fn has_structure(info: &RelInfo) -> bool
-    ensures { result ≡ structure_stands info.now }
+    ensures { result ≡ valid_structure info.now }
 {
-    structure_stands(info.spec, info.attrs.items(), info.keys.items())
+    valid_structure(info.spec, info.attrs.items(), info.keys.items())
 }
 
 /// Whether the attributes stand and have domains.
@@ -45,7 +45,7 @@ fn has_rows(alloc: Global, attrs: &[Attr], rows: &[Row]) -> Result<bool, OutOfMe
 
 /// Whether what is said of the relation stands by itself.
 fn stands(alloc: Global, info: &RelInfo, rows: &[Row]) -> Result<bool, OutOfMemory>
-    ensures { IfOk result (λ b. b ≡ (structure_stands info.now && ((attrs_stand info.now.attrs && are_stored info.now.attrs)
+    ensures { IfOk result (λ b. b ≡ (valid_structure info.now && ((attrs_stand info.now.attrs && are_stored info.now.attrs)
         && (rows_differ rows.now && (list_all (row_fits info.now.attrs) rows.now && nat_le (length rows.now) most_rows))))) }
 {
     if !has_structure(info) {
@@ -65,7 +65,7 @@ pub(crate) fn relation_is_fit<B: Base>(
     info: &RelInfo,
     rows: &[Row],
 ) -> Result<bool, BaseFault>
-    ensures told { (db : Db) → B.schema base.old ≡ Some db → IfOk result (λ fit. fit ≡ relation_is_fit db info.now rows.now) }
+    ensures known { (db : Db) → B.schema base.old ≡ Some db → IfOk result (λ fit. fit ≡ relation_is_fit db info.now rows.now) }
     ensures kept { B.database base.new ≡ B.database base.old }
     ensures stays { (s : Db) → B.schema base.old ≡ Some s → B.schema base.new ≡ Some s }
     ensures asked { (b : B) → B.asked b base.old → B.asked b base.new }

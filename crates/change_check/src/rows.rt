@@ -2,7 +2,7 @@
 
 ghost use Rattle.std.specs.Prelude.{◌≡◌, ◌+◌, ◌-◌, ◌&&◌, not, length, nat_le, true, IfOk, Some};
 ghost use Rattle.std.specs.List.{list_all, list_any};
-ghost use Rattle.am_traits.specs.Causes.{HasCause};
+ghost use Rattle.base_trait.specs.Causes.{HasCause};
 ghost use Rattle.calculus.specs.Change.{rows_differ};
 ghost use Rattle.calculus.specs.Database.{Db, is_relation};
 ghost use Rattle.calculus.specs.IsDatabase.{row_fits};
@@ -14,7 +14,7 @@ ghost use Rattle.change_laws.specs.Fit.{rows_are_fit};
 
 use crate::attributes::row_fits;
 use crate::keys::relation;
-use am_traits::{Base, BaseFault};
+use base_trait::{Base, BaseFault};
 use calculus::{Attr, OutOfMemory, RelKey, Row, RowSet};
 use memory::copies;
 use std::alloc::Global;
@@ -38,7 +38,7 @@ fn has_all<B: Base>(
     rel: &RelKey,
     rows: &[Row],
 ) -> Result<bool, BaseFault>
-    ensures told { (db : Db) → B.database base.old ≡ Some db → IfOk result (λ all. all ≡ list_all (has (rows_at db rel.now)) rows.now) }
+    ensures known { (db : Db) → B.database base.old ≡ Some db → IfOk result (λ all. all ≡ list_all (has (rows_at db rel.now)) rows.now) }
     ensures kept { B.database base.new ≡ B.database base.old }
     ensures stays { (s : Db) → B.schema base.old ≡ Some s → B.schema base.new ≡ Some s }
     ensures asked { (b : B) → B.asked b base.old → B.asked b base.new }
@@ -60,7 +60,7 @@ fn has_any<B: Base>(
     rel: &RelKey,
     rows: &[Row],
 ) -> Result<bool, BaseFault>
-    ensures told { (db : Db) → B.database base.old ≡ Some db → IfOk result (λ any. any ≡ list_any (has (rows_at db rel.now)) rows.now) }
+    ensures known { (db : Db) → B.database base.old ≡ Some db → IfOk result (λ any. any ≡ list_any (has (rows_at db rel.now)) rows.now) }
     ensures kept { B.database base.new ≡ B.database base.old }
     ensures stays { (s : Db) → B.schema base.old ≡ Some s → B.schema base.new ≡ Some s }
     ensures asked { (b : B) → B.asked b base.old → B.asked b base.new }
@@ -99,7 +99,7 @@ fn rows_move<B: Base>(
     remove: &[Row],
     add: &[Row],
 ) -> Result<bool, BaseFault>
-    ensures told { (db : Db) → B.database base.old ≡ Some db
+    ensures known { (db : Db) → B.database base.old ≡ Some db
         → IfOk result (λ b. b ≡ (list_all (has (rows_at db rel.now)) remove.now && not (list_any (has (rows_at db rel.now)) add.now))) }
     ensures kept { B.database base.new ≡ B.database base.old }
     ensures stays { (s : Db) → B.schema base.old ≡ Some s → B.schema base.new ≡ Some s }
@@ -121,7 +121,7 @@ fn few_stay<B: Base>(
     remove: &[Row],
     add: &[Row],
 ) -> Result<bool, BaseFault>
-    ensures told { (db : Db) → B.database base.old ≡ Some db
+    ensures known { (db : Db) → B.database base.old ≡ Some db
         → IfOk result (λ b. b ≡ nat_le (length (rows_at db rel.now) + length add.now - length remove.now) most_rows) }
     ensures kept { B.database base.new ≡ B.database base.old }
     ensures stays { (s : Db) → B.schema base.old ≡ Some s → B.schema base.new ≡ Some s }
@@ -177,7 +177,7 @@ fn rows_have_parts<B: Base>(
     remove: &[Row],
     add: &[Row],
 ) -> Result<bool, BaseFault>
-    ensures told { (db : Db) → B.database base.old ≡ Some db → is_relation db rel.now ≡ true → attrs_at db rel.now ≡ attrs.now
+    ensures known { (db : Db) → B.database base.old ≡ Some db → is_relation db rel.now ≡ true → attrs_at db rel.now ≡ attrs.now
         → IfOk result (λ fit. fit ≡ rows_are_fit db rel.now remove.now add.now) }
     ensures stand { IfOk result (λ fit. fit ≡ true → (rows_differ remove.now && (rows_differ add.now && list_all (row_fits attrs.now) add.now)) ≡ true) }
     ensures kept { B.database base.new ≡ B.database base.old }
@@ -204,7 +204,7 @@ pub(crate) fn rows_are_fit<B: Base>(
     remove: &[Row],
     add: &[Row],
 ) -> Result<bool, BaseFault>
-    ensures told { (db : Db) → B.database base.old ≡ Some db → IfOk result (λ fit. fit ≡ rows_are_fit db rel.now remove.now add.now) }
+    ensures known { (db : Db) → B.database base.old ≡ Some db → IfOk result (λ fit. fit ≡ rows_are_fit db rel.now remove.now add.now) }
     ensures by_schema { (s : Db) → B.schema base.old ≡ Some s → IfOk result (λ fit. fit ≡ true → rows_stand s rel.now remove.now add.now ≡ true) }
     ensures kept { B.database base.new ≡ B.database base.old }
     ensures stays { (s : Db) → B.schema base.old ≡ Some s → B.schema base.new ≡ Some s }

@@ -1,18 +1,18 @@
 //! Views that are made.
 
 ghost use Rattle.std.specs.Prelude.{◌≡◌, ◌&&◌, ◌+◌, ◌-◌, ◌^◌, ◌≤◌, [], length, min, nat_le, not, sum, IfOk, Some};
-ghost use Rattle.am_traits.specs.Causes.{HasCause};
+ghost use Rattle.base_trait.specs.Causes.{HasCause};
 ghost use Rattle.calculus.specs.Database.{Db};
-ghost use Rattle.calculus.specs.IsDatabase.{attrs_are_targets, attrs_stand, query_stands, vars_are_there, view_info_stands};
+ghost use Rattle.calculus.specs.IsDatabase.{attrs_are_targets, attrs_stand, valid_query, vars_are_there, valid_view_info};
 ghost use Rattle.calculus.specs.QueryParts.{query_aggregates, targets_of, vars_of};
 ghost use Rattle.calculus.specs.Sizes.{expanded_variables, query_level, query_size, variables};
 ghost use Rattle.calculus.specs.Storable.{query_is_storable};
 ghost use Rattle.change_laws.specs.Fit.{key_is_free, view_is_fit, view_is_small};
 ghost use Rattle.quel_meaning.specs.Passing.{is_too_high};
 
-use crate::described::{attrs_stand, view_info_stands};
+use crate::described::{attrs_stand, valid_view_info};
 use crate::keys::key_is_free;
-use am_traits::{Base, BaseFault};
+use base_trait::{Base, BaseFault};
 use calculus::{Attr, OutOfMemory, Query, RelInfo, Target, kinds_fit};
 use quel_refusals::{same_kind, targets_fit, var_kinds};
 use std::alloc::Global;
@@ -22,7 +22,7 @@ use view_sizes::{Measure, are_ranges, has_high_level, measure_of, query_depth, u
 /// The variables of a query as it stands at most.
 const MOST_VARIABLES: u64 = 10;
 
-/// The variables of a query once the views in it are put in, at most.
+/// The variables of a query once the views in it are expanded, at most.
 const MOST_EXPANDED_VARIABLES: u64 = 50;
 
 /// The variables that a query lists at most.
@@ -54,7 +54,7 @@ fn attrs_are_targets(attrs: &[Attr], targets: &[Target]) -> bool
 
 /// Whether what the variables of a query range over is there.
 fn vars_are_there<B: Base>(alloc: Global, base: &mut B, query: &Query) -> Result<bool, BaseFault>
-    ensures told { (db : Db) → B.schema base.old ≡ Some db → IfOk result (λ there. there ≡ vars_are_there db query.now) }
+    ensures known { (db : Db) → B.schema base.old ≡ Some db → IfOk result (λ there. there ≡ vars_are_there db query.now) }
     ensures kept { B.database base.new ≡ B.database base.old }
     ensures stays { (s : Db) → B.schema base.old ≡ Some s → B.schema base.new ≡ Some s }
     ensures asked { (b : B) → B.asked b base.old → B.asked b base.new }
@@ -71,8 +71,8 @@ fn has_targets(attrs: &[Attr], query: &Query) -> bool
 }
 
 /// Whether the kinds in a query fit, and each target is of its kind.
-pub fn query_stands<B: Base>(alloc: Global, base: &mut B, query: &Query) -> Result<bool, BaseFault>
-    ensures told { (db : Db) → B.schema base.old ≡ Some db → IfOk result (λ stands. stands ≡ query_stands db query.now) }
+pub fn valid_query<B: Base>(alloc: Global, base: &mut B, query: &Query) -> Result<bool, BaseFault>
+    ensures known { (db : Db) → B.schema base.old ≡ Some db → IfOk result (λ stands. stands ≡ valid_query db query.now) }
     ensures kept { B.database base.new ≡ B.database base.old }
     ensures stays { (s : Db) → B.schema base.old ≡ Some s → B.schema base.new ≡ Some s }
     ensures asked { (b : B) → B.asked b base.old → B.asked b base.new }
@@ -103,9 +103,9 @@ fn is_within(measure: &Measure) -> bool
     measure.variables <= MOST_EXPANDED_VARIABLES && measure.size() <= GREATEST_SIZE
 }
 
-/// Whether a query without aggregates is within the limits of a view once the views in it are put in.
+/// Whether a query without aggregates is within the limits of a view once the views in it are expanded.
 fn measure_fits<B: Base>(alloc: Global, base: &mut B, query: &Query) -> Result<bool, BaseFault>
-    ensures told { (db : Db) → B.schema base.old ≡ Some db → length (vars_of query.now) ≤ 256 → query_aggregates query.now ≡ [] → IfOk result (λ fits. fits ≡ (nat_le (expanded_variables db query.now) 50 && nat_le (query_size db query.now) 1000)) }
+    ensures known { (db : Db) → B.schema base.old ≡ Some db → length (vars_of query.now) ≤ 256 → query_aggregates query.now ≡ [] → IfOk result (λ fits. fits ≡ (nat_le (expanded_variables db query.now) 50 && nat_le (query_size db query.now) 1000)) }
     ensures kept { B.database base.new ≡ B.database base.old }
     ensures stays { (s : Db) → B.schema base.old ≡ Some s → B.schema base.new ≡ Some s }
     ensures asked { (b : B) → B.asked b base.old → B.asked b base.new }
@@ -126,7 +126,7 @@ fn can_be_stored(query: &Query) -> bool
 
 /// Whether a view of this query, in which no aggregate stands, is within the limits.
 fn view_is_small<B: Base>(alloc: Global, base: &mut B, query: &Query) -> Result<bool, BaseFault>
-    ensures told { (db : Db) → B.schema base.old ≡ Some db → query_aggregates query.now ≡ [] → IfOk result (λ small. small ≡ view_is_small db query.now) }
+    ensures known { (db : Db) → B.schema base.old ≡ Some db → query_aggregates query.now ≡ [] → IfOk result (λ small. small ≡ view_is_small db query.now) }
     ensures kept { B.database base.new ≡ B.database base.old }
     ensures stays { (s : Db) → B.schema base.old ≡ Some s → B.schema base.new ≡ Some s }
     ensures asked { (b : B) → B.asked b base.old → B.asked b base.new }
@@ -144,13 +144,13 @@ fn view_is_small<B: Base>(alloc: Global, base: &mut B, query: &Query) -> Result<
 
 /// Whether a query stands as that of a view, and is within the limits.
 fn query_is_fit<B: Base>(alloc: Global, base: &mut B, query: &Query) -> Result<bool, BaseFault>
-    ensures told { (db : Db) → B.schema base.old ≡ Some db → IfOk result (λ fit. fit ≡ (query_stands db query.now && view_is_small db query.now)) }
+    ensures known { (db : Db) → B.schema base.old ≡ Some db → IfOk result (λ fit. fit ≡ (valid_query db query.now && view_is_small db query.now)) }
     ensures kept { B.database base.new ≡ B.database base.old }
     ensures stays { (s : Db) → B.schema base.old ≡ Some s → B.schema base.new ≡ Some s }
     ensures asked { (b : B) → B.asked b base.old → B.asked b base.new }
     ensures cause { HasCause (B.database base.old) (B.faults base.old) (B.faults base.new) result }
 {
-    let stands = query_stands(alloc, base, query)?;
+    let stands = valid_query(alloc, base, query)?;
     if !stands {
         return Ok(false);
     }
@@ -163,7 +163,7 @@ pub fn view_query_is_fit<B: Base>(
     base: &mut B,
     query: &Query,
 ) -> Result<bool, BaseFault>
-    ensures told { (db : Db) → B.schema base.old ≡ Some db → IfOk result (λ fit. fit ≡ (vars_are_there db query.now && (not (is_too_high (query_level db query.now)) && (query_stands db query.now && view_is_small db query.now)))) }
+    ensures known { (db : Db) → B.schema base.old ≡ Some db → IfOk result (λ fit. fit ≡ (vars_are_there db query.now && (not (is_too_high (query_level db query.now)) && (valid_query db query.now && view_is_small db query.now)))) }
     ensures kept { B.database base.new ≡ B.database base.old }
     ensures stays { (s : Db) → B.schema base.old ≡ Some s → B.schema base.new ≡ Some s }
     ensures asked { (b : B) → B.asked b base.old → B.asked b base.new }
@@ -180,9 +180,9 @@ pub fn view_query_is_fit<B: Base>(
 
 /// Whether a view's attributes stand, and are the targets of its query.
 fn view_attrs_stand(alloc: Global, info: &RelInfo, query: &Query) -> Result<bool, OutOfMemory>
-    ensures { IfOk result (λ stand. stand ≡ (view_info_stands info.now && (attrs_stand info.now.attrs && attrs_are_targets info.now.attrs (targets_of query.now)))) }
+    ensures { IfOk result (λ stand. stand ≡ (valid_view_info info.now && (attrs_stand info.now.attrs && attrs_are_targets info.now.attrs (targets_of query.now)))) }
 {
-    if !view_info_stands(info) {
+    if !valid_view_info(info) {
         return Ok(false);
     }
     let attrs = info.attrs.items();
@@ -199,7 +199,7 @@ fn view_has_parts<B: Base>(
     info: &RelInfo,
     query: &Query,
 ) -> Result<bool, BaseFault>
-    ensures told { (db : Db) → B.schema base.old ≡ Some db → IfOk result (λ fit. fit ≡ (key_is_free db info.now.key && ((view_info_stands info.now && (attrs_stand info.now.attrs && attrs_are_targets info.now.attrs (targets_of query.now))) && (vars_are_there db query.now && (not (is_too_high (query_level db query.now)) && (query_stands db query.now && view_is_small db query.now)))))) }
+    ensures known { (db : Db) → B.schema base.old ≡ Some db → IfOk result (λ fit. fit ≡ (key_is_free db info.now.key && ((valid_view_info info.now && (attrs_stand info.now.attrs && attrs_are_targets info.now.attrs (targets_of query.now))) && (vars_are_there db query.now && (not (is_too_high (query_level db query.now)) && (valid_query db query.now && view_is_small db query.now)))))) }
     ensures kept { B.database base.new ≡ B.database base.old }
     ensures stays { (s : Db) → B.schema base.old ≡ Some s → B.schema base.new ≡ Some s }
     ensures asked { (b : B) → B.asked b base.old → B.asked b base.new }
@@ -222,7 +222,7 @@ pub(crate) fn view_is_fit<B: Base>(
     info: &RelInfo,
     query: &Query,
 ) -> Result<bool, BaseFault>
-    ensures told { (db : Db) → B.schema base.old ≡ Some db → IfOk result (λ fit. fit ≡ view_is_fit db info.now query.now) }
+    ensures known { (db : Db) → B.schema base.old ≡ Some db → IfOk result (λ fit. fit ≡ view_is_fit db info.now query.now) }
     ensures kept { B.database base.new ≡ B.database base.old }
     ensures stays { (s : Db) → B.schema base.old ≡ Some s → B.schema base.new ≡ Some s }
     ensures asked { (b : B) → B.asked b base.old → B.asked b base.new }

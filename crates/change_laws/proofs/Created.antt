@@ -16,7 +16,7 @@ use Rattle.calculus.specs.Rows.{Row, Ascends, has, set_of}
 use Rattle.calculus.specs.Database.{Db, Relation, View, is_relation, entries, is_there, rules_on, permits_on}
 use Rattle.calculus.specs.Stored.{range_at}
 use Rattle.calculus.specs.QueryParts.{vars_of}
-use Rattle.calculus.specs.IsDatabase.{IsDatabase, row_fits, key_is_named, structure_stands, attrs_stand, are_stored, relation_rows_fit, vars_are_there, query_stands, index_stands, row_qual_stands, permit_stands}
+use Rattle.calculus.specs.IsDatabase.{IsDatabase, row_fits, key_is_named, valid_structure, attrs_stand, are_stored, relation_rows_fit, vars_are_there, valid_query, valid_index, valid_row_qual, valid_permit}
 use Rattle.calculus.specs.Change.{laid, rows_differ, names_what_is_there, adds_what_is_new, lists_once, IsLawful}
 use Rattle.calculus.proofs.Sets.{Ascends-set_of, has-set_of}
 use Rattle.quel_meaning.specs.Passing.{is_full}
@@ -57,7 +57,7 @@ length_set (row ∷ rows) d =
 
 -- a relation under a free key, with rows that differ, fit and aren't too many
 pub made_lawful : (db : Db) (info : RelInfo) (rows : List Row) → IsDatabase db → IsTrue (key_is_named info.key) → is_there db info.key ≡ false → IsTrue (nat_lt (length (entries db)) most_entries)
-    → IsTrue (structure_stands info) → IsTrue (attrs_stand info.attrs) → IsTrue (are_stored info.attrs)
+    → IsTrue (valid_structure info) → IsTrue (attrs_stand info.attrs) → IsTrue (are_stored info.attrs)
     → IsTrue (rows_differ rows) → IsTrue (list_all (row_fits info.attrs) rows) → IsTrue (nat_le (length rows) most_rows) → IsLawful db (change.Create info rows)
 unfolding laid names_what_is_there adds_what_is_new lists_once
 made_lawful db info rows is named unused room structure attributes domains differ fits few = record {
@@ -73,7 +73,7 @@ made_lawful db info rows is named unused room structure attributes domains diffe
     rules_ascend = is.rules_ascend;
     permits_ascend = is.permits_ascend;
     keys_differ = differ_beside new db.relations others (not_there info.key (entries db) unused) is.keys_differ;
-    structures_stand = put (λ r. structure_stands r.info) structure is.structures_stand;
+    structures_stand = put (λ r. valid_structure r.info) structure is.structures_stand;
     relation_attrs_stand = put (λ r. attrs_stand r.info.attrs) attributes is.relation_attrs_stand;
     relations_are_stored = put (λ r. are_stored r.info.attrs) domains is.relations_are_stored;
     rows_ascend = each_beside (λ r. Ascends r.rows) new db.relations (Ascends-set_of rows) is.rows_ascend;
@@ -137,8 +137,8 @@ made_lawful db info rows is named unused room structure attributes domains diffe
     ranges_alike : (key : RelKey) → same_key rel key ≡ false → AlikeRange (range_at db key) (range_at later key)
     ranges_alike key other = ranges_beside db new key other
 
-    stood : AllByRecursion (λ v. IsTrue (query_stands db v.query)) db.views
-    stood = each_true (λ v. query_stands db v.query) db.views is.view_queries_stand
+    stood : AllByRecursion (λ v. IsTrue (valid_query db v.query)) db.views
+    stood = each_true (λ v. valid_query db v.query) db.views is.view_queries_stand
 
     differs : RelInfo → Bool
     differs i = not (same_key rel i.key)
@@ -163,15 +163,15 @@ made_lawful db info rows is named unused room structure attributes domains diffe
         (λ v k. record { key = is_no (same_key rel v.info.key) k.0; vars = vars_other v k.1.0; plain = query_plain db v.query k.1.1 })
 
     ruled : AllByRecursion (λ p. Other p.0) db.rules
-    ruled = each_from _ _ db.rules (each_true (λ p. is_relation db p.0 && row_qual_stands db p.0 p.1.qual) db.rules is.rules_stand)
-        (λ p t. ranged_is_other db rel p.0 nothing (relation_is_ranged db p.0 (both (is_relation db p.0) (row_qual_stands db p.0 p.1.qual) t).0))
+    ruled = each_from _ _ db.rules (each_true (λ p. is_relation db p.0 && valid_row_qual db p.0 p.1.qual) db.rules is.rules_stand)
+        (λ p t. ranged_is_other db rel p.0 nothing (relation_is_ranged db p.0 (both (is_relation db p.0) (valid_row_qual db p.0 p.1.qual) t).0))
 
     permitted : AllByRecursion (λ p. Other p.0) db.permits
-    permitted = each_from _ _ db.permits (each_true (λ p. permit_stands db p.0 p.1) db.permits is.permits_stand)
+    permitted = each_from _ _ db.permits (each_true (λ p. valid_permit db p.0 p.1) db.permits is.permits_stand)
         (λ p t. ranged_is_other db rel p.0 nothing (relation_is_ranged db p.0 (both (is_relation db p.0) _ t).0))
 
     based : AllByRecursion (λ x. Other x.base) db.indexes
-    based = each_from _ _ db.indexes (each_true (index_stands db) db.indexes is.indexes_stand) (λ x t. ranged_is_other db rel x.base nothing (relation_is_ranged db x.base (index_based db x t)))
+    based = each_from _ _ db.indexes (each_true (valid_index db) db.indexes is.indexes_stand) (λ x t. ranged_is_other db rel x.base nothing (relation_is_ranged db x.base (index_based db x t)))
 
 -- ---- the test
 
@@ -184,7 +184,7 @@ relation_fits_exactly db info rows is = (to, from)
         let free = both (key_is_free db info.key) _ t in
         let named = both (key_is_named info.key) (not (is_there db info.key) && not (is_full db)) free.0 in
         let unused = both (not (is_there db info.key)) (not (is_full db)) named.1 in
-        let structure = both (structure_stands info) _ free.1 in
+        let structure = both (valid_structure info) _ free.1 in
         let attributes = both (attrs_stand info.attrs) _ structure.1 in
         let domains = both (are_stored info.attrs) _ attributes.1 in
         let differ = both (rows_differ rows) _ domains.1 in
@@ -193,7 +193,7 @@ relation_fits_exactly db info rows is = (to, from)
 
     from : IsLawful db (change.Create info rows) → relation_is_fit db info rows ≡ true
     from l =
-        each _ _ (each _ _ named (each _ _ l.additions_are_new (not_full db room))) (each _ _ (its (λ r. structure_stands r.info) after.structures_stand) (each _ _ (its (λ r. attrs_stand r.info.attrs) after.relation_attrs_stand)
+        each _ _ (each _ _ named (each _ _ l.additions_are_new (not_full db room))) (each _ _ (its (λ r. valid_structure r.info) after.structures_stand) (each _ _ (its (λ r. attrs_stand r.info.attrs) after.relation_attrs_stand)
         (each _ _ (its (λ r. are_stored r.info.attrs) after.relations_are_stored) (each _ _ l.nothing_is_listed_twice (each _ _ (all_of_set (row_fits info.attrs) rows (its relation_rows_fit after.rows_fit))
         (ap (λ n. nat_le n most_rows) (sym (length_set rows l.nothing_is_listed_twice)) ∙ its (λ r. nat_le (length r.rows) most_rows) after.few_rows))))))
       where

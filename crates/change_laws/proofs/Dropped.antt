@@ -12,7 +12,7 @@ use Rattle.calculus.specs.Keys.{same_key, numbered_cmp}
 use Rattle.calculus.specs.Lists.{has_number, differ_by}
 use Rattle.calculus.specs.Limits.{most_permits, most_rules, greatest_number}
 use Rattle.calculus.specs.Database.{Db, Relation, is_relation, rules_on, permits_on}
-use Rattle.calculus.specs.IsDatabase.{IsDatabase, permit_stands, row_qual_stands}
+use Rattle.calculus.specs.IsDatabase.{IsDatabase, valid_permit, valid_row_qual}
 use Rattle.calculus.specs.Storable.{row_qual_is_storable, permit_lists_are_storable}
 use Rattle.calculus.specs.Change.{laid, permit_numbers, rule_numbers, names_what_is_there, adds_what_is_new, lists_once, IsLawful}
 use Rattle.change_laws.specs.Fit.{numbers_may_go, permits_may_go, rules_may_go}
@@ -49,7 +49,7 @@ permits_gone db rel gone is relation there differ = record {
     stand : PermitsStand db later
     stand = record {
       ascend = IsStrictlySortedBy-filter (numbered_cmp (λ p. p.number)) kept db.permits is.permits_ascend;
-      stand = all_filter (λ p. permit_stands db p.0 p.1) kept db.permits is.permits_stand;
+      stand = all_filter (λ p. valid_permit db p.0 p.1) kept db.permits is.permits_stand;
       are_storable = all_filter (λ p. row_qual_is_storable p.1.qual) kept db.permits is.storable_permits;
       have_storable_lists = all_filter (λ p. permit_lists_are_storable p.1) kept db.permits is.storable_lists;
       are_few = all_imply (λ (r : Relation). nat_le (length (permits_on db r.info.key)) most_permits) (λ r. nat_le (length (permits_on (record db { permits = later }) r.info.key)) most_permits)
@@ -101,7 +101,7 @@ rules_gone db rel gone is relation there differ = record {
     stand : RulesStand db later
     stand = record {
       ascend = IsStrictlySortedBy-filter (numbered_cmp (λ p. p.number)) kept db.rules is.rules_ascend;
-      stand = all_filter (λ p. is_relation db p.0 && row_qual_stands db p.0 p.1.qual) kept db.rules is.rules_stand;
+      stand = all_filter (λ p. is_relation db p.0 && valid_row_qual db p.0 p.1.qual) kept db.rules is.rules_stand;
       are_storable = all_filter (λ p. row_qual_is_storable p.1.qual) kept db.rules is.storable_rules;
       are_few = all_imply (λ (r : Relation). nat_le (length (rules_on db r.info.key)) most_rules) (λ r. nat_le (length (rules_on (record db { rules = later }) r.info.key)) most_rules)
           (λ r t. few_later r.info.key (le_is (length (rules_on db r.info.key)) most_rules t)) db.relations is.few_rules;

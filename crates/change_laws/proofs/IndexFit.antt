@@ -13,7 +13,7 @@ use Rattle.calculus.specs.Lists.{insert_by, is_any}
 use Rattle.calculus.specs.Limits.{most_entries}
 use Rattle.calculus.specs.Database.{Db, Index, entries, is_relation, is_there}
 use Rattle.calculus.specs.Stored.{attrs_at}
-use Rattle.calculus.specs.IsDatabase.{IsDatabase, key_is_named, keys_stand, index_stands}
+use Rattle.calculus.specs.IsDatabase.{IsDatabase, key_is_named, keys_stand, valid_index}
 use Rattle.calculus.specs.Change.{laid, index_info, names_what_is_there, adds_what_is_new, IsLawful}
 use Rattle.quel_meaning.specs.Passing.{is_full}
 use Rattle.change_laws.specs.Fit.{key_is_free, index_is_fit}
@@ -76,7 +76,7 @@ index_fits_exactly db base name keys is = (to, from)
 
         stands : IsTrue (is_any keys) × IsTrue (keys_stand (attrs_at db base) keys)
         stands =
-            let own : IsTrue (index_stands db new) = its (index_stands db) (indexes_stay db later (indexed_alike db indexes) indexes ∙ after.indexes_stand) in
+            let own : IsTrue (valid_index db new) = its (valid_index db) (indexes_stay db later (indexed_alike db indexes) indexes ∙ after.indexes_stand) in
             both (is_any keys) (keys_stand (attrs_at db base) keys) (both (is_relation db base) (is_any keys && keys_stand (attrs_at db base) keys) own).1
 
         behind : (test : RelInfo → Bool) (last : List RelInfo) → IsTrue (list_all test (relations ++ (views ++ last))) → IsTrue (list_all test last)

@@ -11,7 +11,7 @@ use Rattle.calculus.specs.Keys.{same_key, numbered_cmp}
 use Rattle.calculus.specs.Lists.{has_number, insert_by}
 use Rattle.calculus.specs.Limits.{most_permits, most_rules, greatest_number}
 use Rattle.calculus.specs.Database.{Db, Relation, relation_at, is_relation, rules_on, permits_on}
-use Rattle.calculus.specs.IsDatabase.{IsDatabase, row_qual_stands, permit_stands}
+use Rattle.calculus.specs.IsDatabase.{IsDatabase, valid_row_qual, valid_permit}
 use Rattle.calculus.specs.Storable.{row_qual_is_storable, permit_lists_are_storable}
 use Rattle.calculus.specs.Change.{laid, permit_numbers, rule_numbers, names_what_is_there, adds_what_is_new, lists_once, IsLawful}
 use Rattle.quel_meaning.proofs.InOrder.{in_order-insert}
@@ -29,10 +29,10 @@ use Rattle.change_laws.proofs.Inserted.{insert_passes, count_insert, number_uneq
 -- ---- a permit
 
 -- the permits that stand then stand in the database as it was
-permits_as_before : (db : Db) (permits : List (RelKey × Permit)) → IsTrue (list_all (λ p. permit_stands (record db { permits = permits }) p.0 p.1) permits) → IsTrue (list_all (λ p. permit_stands db p.0 p.1) permits)
+permits_as_before : (db : Db) (permits : List (RelKey × Permit)) → IsTrue (list_all (λ p. valid_permit (record db { permits = permits }) p.0 p.1) permits) → IsTrue (list_all (λ p. valid_permit db p.0 p.1) permits)
 permits_as_before db permits t = permits_stay db (record db { permits = permits }) (permits_alike db permits) refl permits ∙ t
 
-pub permit_lawful : (db : Db) (rel : RelKey) (permit : Permit) → IsDatabase db → IsTrue (permit_stands db rel permit) → IsTrue (row_qual_is_storable permit.qual) → IsTrue (permit_lists_are_storable permit)
+pub permit_lawful : (db : Db) (rel : RelKey) (permit : Permit) → IsDatabase db → IsTrue (valid_permit db rel permit) → IsTrue (row_qual_is_storable permit.qual) → IsTrue (permit_lists_are_storable permit)
     → IsTrue (nat_le permit.number greatest_number) → IsTrue (not (has_number (permit_numbers db rel) permit.number)) → IsTrue (nat_lt (length (permit_numbers db rel)) most_permits)
     → IsLawful db (change.Permit rel permit)
 unfolding laid names_what_is_there adds_what_is_new lists_once
@@ -59,7 +59,7 @@ permit_lawful db rel permit is stands storable lists low new few =
     stand : PermitsStand db later
     stand = record {
       ascend = in_order-insert (numbered_total (λ p. p.number)) (rel, permit) db.permits is.permits_ascend;
-      stand = put (λ p. permit_stands db p.0 p.1) stands is.permits_stand;
+      stand = put (λ p. valid_permit db p.0 p.1) stands is.permits_stand;
       are_storable = put (λ p. row_qual_is_storable p.1.qual) storable is.storable_permits;
       have_storable_lists = put (λ p. permit_lists_are_storable p.1) lists is.storable_lists;
       are_few = all_imply (λ (r : Relation). nat_le (length (permits_on db r.info.key)) most_permits) (λ r. nat_le (length (permits_on (record db { permits = later }) r.info.key)) most_permits)
@@ -73,7 +73,7 @@ permit_fits_exactly db rel permit is = (to, from)
   where
     to : permit_is_fit db rel permit ≡ true → IsLawful db (change.Permit rel permit)
     to t =
-        let stands = both (permit_stands db rel permit) _ t in
+        let stands = both (valid_permit db rel permit) _ t in
         let storable = both (row_qual_is_storable permit.qual) _ stands.1 in
         let lists = both (permit_lists_are_storable permit) _ storable.1 in
         let low = both (nat_le permit.number greatest_number) _ lists.1 in
@@ -94,8 +94,8 @@ permit_fits_exactly db rel permit is = (to, from)
         its : (test : RelKey × Permit → Bool) → IsTrue (list_all test later.permits) → IsTrue (test (rel, permit))
         its test = insert_passes (numbered_cmp (λ p. p.number)) test (rel, permit) db.permits
 
-        stands : IsTrue (permit_stands db rel permit)
-        stands = its (λ p. permit_stands db p.0 p.1) (permits_as_before db later.permits after.permits_stand)
+        stands : IsTrue (valid_permit db rel permit)
+        stands = its (λ p. valid_permit db p.0 p.1) (permits_as_before db later.permits after.permits_stand)
 
         one_more : length (permits_on later rel) ≡ suc (length (permit_numbers db rel))
         one_more =
@@ -117,11 +117,11 @@ permit_fits_exactly db rel permit is = (to, from)
 -- ---- a rule
 
 -- the rules that stand then stand in the database as it was
-rules_as_before : (db : Db) (rules : List (RelKey × Rule)) → IsTrue (list_all (λ p. is_relation (record db { rules = rules }) p.0 && row_qual_stands (record db { rules = rules }) p.0 p.1.qual) rules)
-    → IsTrue (list_all (λ p. is_relation db p.0 && row_qual_stands db p.0 p.1.qual) rules)
+rules_as_before : (db : Db) (rules : List (RelKey × Rule)) → IsTrue (list_all (λ p. is_relation (record db { rules = rules }) p.0 && valid_row_qual (record db { rules = rules }) p.0 p.1.qual) rules)
+    → IsTrue (list_all (λ p. is_relation db p.0 && valid_row_qual db p.0 p.1.qual) rules)
 rules_as_before db rules t = rules_stay db (record db { rules = rules }) (rules_alike db rules) rules ∙ t
 
-pub rule_lawful : (db : Db) (rel : RelKey) (rule : Rule) → IsDatabase db → IsTrue (is_relation db rel) → IsTrue (row_qual_stands db rel rule.qual) → IsTrue (row_qual_is_storable rule.qual)
+pub rule_lawful : (db : Db) (rel : RelKey) (rule : Rule) → IsDatabase db → IsTrue (is_relation db rel) → IsTrue (valid_row_qual db rel rule.qual) → IsTrue (row_qual_is_storable rule.qual)
     → IsTrue (nat_le rule.number greatest_number) → IsTrue (not (has_number (rule_numbers db rel) rule.number)) → IsTrue (nat_lt (length (rule_numbers db rel)) most_rules)
     → IsLawful db (change.Rule rel rule)
 unfolding laid names_what_is_there adds_what_is_new lists_once
@@ -137,7 +137,7 @@ rule_lawful db rel rule is relation stands storable low new few =
     own : count (of_key rel) db.rules < most_rules
     own = omega (arith, lt_is (length (rule_numbers db rel)) most_rules few, length-map (rules_on db rel) (λ p. p.number), counted db.rules rel)
 
-    own_stands : IsTrue (is_relation db rel && row_qual_stands db rel rule.qual)
+    own_stands : IsTrue (is_relation db rel && valid_row_qual db rel rule.qual)
     own_stands = each _ _ relation stands
 
     put : (test : RelKey × Rule → Bool) → IsTrue (test (rel, rule)) → IsTrue (list_all test db.rules) → IsTrue (list_all test later)
@@ -151,7 +151,7 @@ rule_lawful db rel rule is relation stands storable low new few =
     stand : RulesStand db later
     stand = record {
       ascend = in_order-insert (numbered_total (λ p. p.number)) (rel, rule) db.rules is.rules_ascend;
-      stand = put (λ p. is_relation db p.0 && row_qual_stands db p.0 p.1.qual) own_stands is.rules_stand;
+      stand = put (λ p. is_relation db p.0 && valid_row_qual db p.0 p.1.qual) own_stands is.rules_stand;
       are_storable = put (λ p. row_qual_is_storable p.1.qual) storable is.storable_rules;
       are_few = all_imply (λ (r : Relation). nat_le (length (rules_on db r.info.key)) most_rules) (λ r. nat_le (length (rules_on (record db { rules = later }) r.info.key)) most_rules)
           (λ r t. few_later r.info.key (le_is (length (rules_on db r.info.key)) most_rules t)) db.relations is.few_rules;
@@ -165,7 +165,7 @@ rule_fits_exactly db rel rule is = (to, from)
     to : rule_is_fit db rel rule ≡ true → IsLawful db (change.Rule rel rule)
     to t =
         let relation = both (is_relation db rel) _ t in
-        let stands = both (row_qual_stands db rel rule.qual) _ relation.1 in
+        let stands = both (valid_row_qual db rel rule.qual) _ relation.1 in
         let storable = both (row_qual_is_storable rule.qual) _ stands.1 in
         let low = both (nat_le rule.number greatest_number) _ storable.1 in
         let new = both (not (has_number (rule_numbers db rel) rule.number)) (nat_lt (length (rule_numbers db rel)) most_rules) low.1 in
@@ -173,7 +173,7 @@ rule_fits_exactly db rel rule is = (to, from)
 
     from : IsLawful db (change.Rule rel rule) → rule_is_fit db rel rule ≡ true
     from l =
-        each _ _ l.names_are_there (each _ _ (both (is_relation db rel) (row_qual_stands db rel rule.qual) stands).1 (each _ _ (its (λ p. row_qual_is_storable p.1.qual) after.storable_rules)
+        each _ _ l.names_are_there (each _ _ (both (is_relation db rel) (valid_row_qual db rel rule.qual) stands).1 (each _ _ (its (λ p. row_qual_is_storable p.1.qual) after.storable_rules)
         (each _ _ (its (λ p. nat_le p.1.number greatest_number) after.small_rule_numbers) (each _ _ l.additions_are_new few))))
       where
         later : Db
@@ -185,8 +185,8 @@ rule_fits_exactly db rel rule is = (to, from)
         its : (test : RelKey × Rule → Bool) → IsTrue (list_all test later.rules) → IsTrue (test (rel, rule))
         its test = insert_passes (numbered_cmp (λ r. r.number)) test (rel, rule) db.rules
 
-        stands : IsTrue (is_relation db rel && row_qual_stands db rel rule.qual)
-        stands = its (λ p. is_relation db p.0 && row_qual_stands db p.0 p.1.qual) (rules_as_before db later.rules after.rules_stand)
+        stands : IsTrue (is_relation db rel && valid_row_qual db rel rule.qual)
+        stands = its (λ p. is_relation db p.0 && valid_row_qual db p.0 p.1.qual) (rules_as_before db later.rules after.rules_stand)
 
         one_more : length (rules_on later rel) ≡ suc (length (rule_numbers db rel))
         one_more =

@@ -9,7 +9,7 @@ use Rattle.calculus.specs.declared.change.DbChange.TheVariants as change
 use Rattle.calculus.specs.Keys.{same_key}
 use Rattle.calculus.specs.Database.{Db, Relation, Index, relation_at, is_relation}
 use Rattle.calculus.specs.Stored.{attrs_at}
-use Rattle.calculus.specs.IsDatabase.{IsDatabase, structure_stands}
+use Rattle.calculus.specs.IsDatabase.{IsDatabase, valid_structure}
 use Rattle.calculus.specs.Change.{laid, restructured, names_what_is_there, adds_what_is_new, lists_once, IsLawful}
 use Rattle.change_laws.specs.Fit.{structure_is_fit}
 use Rattle.plan_laws.proofs.Kept.{both, each}
@@ -21,7 +21,7 @@ use Rattle.change_laws.proofs.RowsFit.{changed_passes}
 
 -- a structure with these keys would be one for the attributes
 abbrev stands_for : RelKey → Spec → List ℕ → List Attr → Bool
-stands_for key to keys attrs = structure_stands (record { key = key; spec = to; attrs = attrs; keys = keys })
+stands_for key to keys attrs = valid_structure (record { key = key; spec = to; attrs = attrs; keys = keys })
 
 restructured_lawful : (db : Db) (rel : RelKey) (to : Spec) (keys : List ℕ) → IsDatabase db → is_relation db rel ≡ true → IsTrue (stands_for rel to keys (attrs_at db rel)) → IsLawful db (change.Modify rel to keys)
 unfolding laid names_what_is_there adds_what_is_new lists_once
@@ -65,4 +65,4 @@ structure_fits_exactly db rel to keys is = (onto, from)
     from : IsLawful db (change.Modify rel to keys) → structure_is_fit db rel to keys ≡ true
     from l = there_is (relation_at db rel) l.names_are_there (λ relation found.
         each _ _ l.names_are_there (subst (λ attrs. IsTrue (stands_for rel to keys attrs)) (sym (its_attrs db rel relation found))
-        (changed_passes rel (restructured to keys) (λ r. structure_stands r.info) db.relations relation found l.leaves_a_database.structures_stand)))
+        (changed_passes rel (restructured to keys) (λ r. valid_structure r.info) db.relations relation found l.leaves_a_database.structures_stand)))

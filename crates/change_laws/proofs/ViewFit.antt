@@ -17,7 +17,7 @@ use Rattle.calculus.specs.Stored.{Viewed, range_at, kinds_at}
 use Rattle.calculus.specs.QueryParts.{vars_of, targets_of, query_aggregates}
 use Rattle.calculus.specs.Sizes.{Measure, level_above, range_level, level_within, level_of, query_level, query_measure, measure_of, variables, expanded_variables, query_size, source_variables}
 use Rattle.calculus.specs.Storable.{query_is_storable}
-use Rattle.calculus.specs.IsDatabase.{IsDatabase, key_is_named, view_info_stands, attrs_stand, attrs_are_targets, vars_are_there, query_stands}
+use Rattle.calculus.specs.IsDatabase.{IsDatabase, key_is_named, valid_view_info, attrs_stand, attrs_are_targets, vars_are_there, valid_query}
 use Rattle.calculus.specs.Change.{laid, adds_what_is_new, IsLawful}
 use Rattle.quel_meaning.specs.Passing.{is_full, is_too_high}
 use Rattle.quel_meaning.specs.Planned.{view_info}
@@ -86,7 +86,7 @@ below_it db rel view range there = (there_below (level_within 15 db) (vars_of vi
 
 -- what must hold of a view: it is kept as one, its attributes are the targets of its query, and a view of that fits
 record ViewFacts (db : Db) (info : RelInfo) (q : Query) : Type 0 where
-  kept : IsTrue (view_info_stands info)
+  kept : IsTrue (valid_view_info info)
   targets : IsTrue (attrs_are_targets info.attrs (targets_of q))
   fit : IsFitView db info.key q
 
@@ -139,8 +139,8 @@ lawful_view db info q is l = record {
         let rest = both (list_all test relations) (list_all test (vs ++ indexes)) (sym (all-append test relations (vs ++ indexes)) ∙ t) in
         (both (list_all test vs) (list_all test indexes) (sym (all-append test vs indexes) ∙ rest.1)).0
 
-    kept : IsTrue (view_info_stands info)
-    kept = its (λ v. view_info_stands v.info) after.view_infos_stand
+    kept : IsTrue (valid_view_info info)
+    kept = its (λ v. valid_view_info v.info) after.view_infos_stand
 
     targets : IsTrue (attrs_are_targets info.attrs (targets_of q))
     targets = its (λ v. attrs_are_targets v.info.attrs (targets_of v.query)) after.view_attrs_are_targets
@@ -166,9 +166,9 @@ lawful_view db info q is l = record {
     own_vars : AllByRecursion Other (vars_of q)
     own_vars = below.1
 
-    stands : IsTrue (query_stands db q)
+    stands : IsTrue (valid_query db q)
     stands = ap (λ kinds. stands_with kinds q) (map_same Other (kinds_at db) (kinds_at later) (vars_of q) own_vars (λ key p. kinds_stay Other db later stay key p))
-        ∙ its (λ v. query_stands later v.query) after.view_queries_stand
+        ∙ its (λ v. valid_query later v.query) after.view_queries_stand
 
     with : Db → Measure → List QAgg → ℕ
     with d m gs = m.variables + sum_by (λ g. source_variables (measure_of d) g.source) gs
@@ -212,12 +212,12 @@ view_fits_exactly db info q is = (to, from)
         let free = both (key_is_free db info.key) _ t in
         let named = both (key_is_named info.key) (not (is_there db info.key) && not (is_full db)) free.0 in
         let unused = both (not (is_there db info.key)) (not (is_full db)) named.1 in
-        let kept = both (view_info_stands info) _ free.1 in
+        let kept = both (valid_view_info info) _ free.1 in
         let attributes = both (attrs_stand info.attrs) _ kept.1 in
         let targets = both (attrs_are_targets info.attrs (targets_of q)) _ attributes.1 in
         let vars = both (vars_are_there db q) _ targets.1 in
         let level = both (not (is_too_high (query_level db q))) _ vars.1 in
-        let stands = both (query_stands db q) (view_is_small db q) level.1 in
+        let stands = both (valid_query db q) (view_is_small db q) level.1 in
         let listed = both (nat_le (length (vars_of q)) most_expanded_variables) _ stands.1 in
         let few = both (nat_le (variables q) most_variables) _ listed.1 in
         let expanded = both (nat_le (expanded_variables db q) most_expanded_variables) _ few.1 in

@@ -20,7 +20,7 @@ use Rattle.calculus.specs.Lists.{is_any}
 use Rattle.calculus.specs.Database.{Db, View}
 use Rattle.calculus.specs.Stored.{range_at}
 use Rattle.calculus.specs.QueryParts.{vars_of, targets_of}
-use Rattle.calculus.specs.IsDatabase.{IsDatabase, view_info_stands, attrs_are_targets, same_domain, same_kind, vars_are_there}
+use Rattle.calculus.specs.IsDatabase.{IsDatabase, valid_view_info, attrs_are_targets, same_domain, same_kind, vars_are_there}
 use Rattle.calculus.specs.Structures.{is_view}
 use Rattle.quel_meaning.specs.Planned.{view_info, target_attr}
 use Rattle.plan_laws.proofs.Kept.{both}
@@ -73,7 +73,7 @@ the_view spec.View t = refl
 the_view _ t = cc t
 
 -- what is kept as a view, with the targets of a query as its attributes, is what is known of a view of it
-pub view_known : (info : RelInfo) (q : Query) → IsTrue (view_info_stands info) → IsTrue (attrs_are_targets info.attrs (targets_of q)) → view_info info.key q ≡ info
+pub view_known : (info : RelInfo) (q : Query) → IsTrue (valid_view_info info) → IsTrue (attrs_are_targets info.attrs (targets_of q)) → view_info info.key q ≡ info
 view_known info q kept targets =
     let view = both (is_view info.spec) (not (is_any info.keys)) kept in
     λ i. record { key = info.key; spec = sym (the_view info.spec view.0) i; attrs = sym (attrs_are info.attrs (targets_of q) targets) i; keys = sym (no_keys info.keys view.1) i }

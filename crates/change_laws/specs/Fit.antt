@@ -17,7 +17,7 @@ use Rattle.calculus.specs.Database.{Db, is_relation, is_there}
 use Rattle.calculus.specs.Stored.{rows_at, attrs_at}
 use Rattle.calculus.specs.QueryParts.{vars_of, targets_of}
 use Rattle.calculus.specs.Sizes.{query_level, variables, expanded_variables, query_size}
-use Rattle.calculus.specs.IsDatabase.{key_is_named, structure_stands, attrs_stand, are_stored, keys_stand, row_fits, view_info_stands, attrs_are_targets, vars_are_there, query_stands, row_qual_stands, permit_stands}
+use Rattle.calculus.specs.IsDatabase.{key_is_named, valid_structure, attrs_stand, are_stored, keys_stand, row_fits, valid_view_info, attrs_are_targets, vars_are_there, valid_query, valid_row_qual, valid_permit}
 use Rattle.calculus.specs.Storable.{row_qual_is_storable, permit_lists_are_storable, query_is_storable}
 use Rattle.calculus.specs.Change.{rows_differ, permit_numbers, rule_numbers}
 use Rattle.quel_meaning.specs.Passing.{is_full, is_too_high}
@@ -55,23 +55,23 @@ rows_are_fit db rel remove add =
 unfoldable pub relation_is_fit : Db → RelInfo → List Row → Bool
 relation_is_fit db info rows =
     key_is_free db info.key
-    && (structure_stands info
+    && (valid_structure info
     && (attrs_stand info.attrs && (are_stored info.attrs && (rows_differ rows && (list_all (row_fits info.attrs) rows && nat_le (length rows) most_rows)))))
 
 -- a permit may be made: it stands on a relation, its qualification and what it lists can be stored, and it has a free number
 unfoldable pub permit_is_fit : Db → RelKey → Permit → Bool
 permit_is_fit db rel permit =
-    permit_stands db rel permit
+    valid_permit db rel permit
     && (row_qual_is_storable permit.qual && (permit_lists_are_storable permit && number_is_free most_permits (permit_numbers db rel) permit.number))
 
 -- a rule may be made: it stands on a relation, its qualification can be stored, and it has a free number
 unfoldable pub rule_is_fit : Db → RelKey → Rule → Bool
 rule_is_fit db rel rule =
-    is_relation db rel && (row_qual_stands db rel rule.qual && (row_qual_is_storable rule.qual && number_is_free most_rules (rule_numbers db rel) rule.number))
+    is_relation db rel && (valid_row_qual db rel rule.qual && (row_qual_is_storable rule.qual && number_is_free most_rules (rule_numbers db rel) rule.number))
 
 -- a relation may be stored so: it is there, and the structure with these keys would be one for its attributes
 unfoldable pub structure_is_fit : Db → RelKey → Spec → List ℕ → Bool
-structure_is_fit db rel to keys = is_relation db rel && structure_stands (record { key = rel; spec = to; attrs = attrs_at db rel; keys = keys })
+structure_is_fit db rel to keys = is_relation db rel && valid_structure (record { key = rel; spec = to; attrs = attrs_at db rel; keys = keys })
 
 -- an index may be made: its relation is there, it has key attributes of it, and its key is free
 unfoldable pub index_is_fit : Db → RelKey → List ℕ → List ℕ → Bool
@@ -85,7 +85,7 @@ is_named_outside db rels key = list_any (λ v. not (has_key rels v.info.key) && 
 unfoldable pub destroying_is_fit : Db → List RelKey → Bool
 destroying_is_fit db rels = list_all (is_there db) rels && (differ_by same_key rels && not (list_any (is_named_outside db rels) rels))
 
--- the view is within the limits, once the views in it are put in, and can be stored
+-- the view is within the limits, once the views in it are expanded, and can be stored
 unfoldable pub view_is_small : Db → Query → Bool
 view_is_small db q =
     nat_le (length (vars_of q)) most_expanded_variables
@@ -96,10 +96,10 @@ view_is_small db q =
 unfoldable pub view_is_fit : Db → RelInfo → Query → Bool
 view_is_fit db info q =
     key_is_free db info.key
-    && (view_info_stands info
-    && (attrs_stand info.attrs && (attrs_are_targets info.attrs (targets_of q) && (vars_are_there db q && (not (is_too_high (query_level db q)) && (query_stands db q && view_is_small db q))))))
+    && (valid_view_info info
+    && (attrs_stand info.attrs && (attrs_are_targets info.attrs (targets_of q) && (vars_are_there db q && (not (is_too_high (query_level db q)) && (valid_query db q && view_is_small db q))))))
 
--- the change may be laid
+-- the change may be applied
 unfoldable pub change_is_fit : Db → DbChange → Bool
 change_is_fit db (change.Rows rel remove add) = rows_are_fit db rel remove add
 change_is_fit db (change.Create info rows) = relation_is_fit db info rows

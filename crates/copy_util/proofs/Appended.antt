@@ -13,7 +13,7 @@ use Rattle.calculus.specs.Replacement.{after, new_rows, old_rows, with_rows, wit
 use Rattle.calculus.specs.Rows.{Row, Ascends, has, set_of}
 use Rattle.calculus.specs.Stored.{rows_at}
 use Rattle.calculus.proofs.Sets.{Ascends-set_of}
-use Rattle.am_traits.specs.Scans.{IsScan}
+use Rattle.base_trait.specs.Scans.{IsScan}
 use Rattle.update_change.proofs.MovedRows.{come_is, go_is, left_is}
 use Rattle.copy_util.specs.Causes.{Copies}
 use Rattle.copy_util.specs.declared.fault.CopyFault.{CopyFault}
@@ -97,16 +97,16 @@ none_appended db rel rows coming h is room = go (nat_lt most_rows (length after_
     go true f = refl
     go false f = cc f
 
--- what is told of the rows that come says what is told of all
-pub told_appended : (db : Db) (rel : RelKey) (rows coming : List Row) (result : Result DbChange CopyFault) → Ascends (rows_at db rel)
+-- what is known of the rows that come says what is known of all
+pub known_appended : (db : Db) (rel : RelKey) (rows coming : List Row) (result : Result DbChange CopyFault) → Ascends (rows_at db rel)
     → coming ≡ without_rows (rows_at db rel) (set_of (kept db rel rows))
     → Copies (λ c. (c ≡ change.Rows rel [] coming) × IsFalse (nat_lt most_rows (length (rows_at db rel) + length coming)))
     (λ r. (r ≡ refusal 29) × IsTrue (nat_lt most_rows (length (rows_at db rel) + length coming))) result
     → Copies (λ c. rows_appended db rel rows ≡ Ok c) (λ r. rows_appended db rel rows ≡ Err r) result
-told_appended db rel rows coming (Ok made) h is told = appended_is db rel rows coming made h is told.1 told.0
-told_appended db rel rows coming (Err (No number)) h is told = none_appended db rel rows coming h is told.1 ∙ ap Err (sym told.0)
-told_appended db rel rows coming (Err (BadRow row)) h is told = none_appended db rel rows coming h is told.1 ∙ ap Err (sym told.0)
-told_appended db rel rows coming (Err NoFile) h is told = none_appended db rel rows coming h is told.1 ∙ ap Err (sym told.0)
-told_appended db rel rows coming (Err Shelf) h is told = told
-told_appended db rel rows coming (Err (Base fault)) h is told = told
-told_appended db rel rows coming (Err OutOfMemory) h is told = told
+known_appended db rel rows coming (Ok made) h is known = appended_is db rel rows coming made h is known.1 known.0
+known_appended db rel rows coming (Err (No number)) h is known = none_appended db rel rows coming h is known.1 ∙ ap Err (sym known.0)
+known_appended db rel rows coming (Err (BadRow row)) h is known = none_appended db rel rows coming h is known.1 ∙ ap Err (sym known.0)
+known_appended db rel rows coming (Err NoFile) h is known = none_appended db rel rows coming h is known.1 ∙ ap Err (sym known.0)
+known_appended db rel rows coming (Err Shelf) h is known = known
+known_appended db rel rows coming (Err (Base fault)) h is known = known
+known_appended db rel rows coming (Err OutOfMemory) h is known = known

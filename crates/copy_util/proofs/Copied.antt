@@ -8,11 +8,11 @@ use Rattle.calculus.specs.declared.query.RelKey.{RelKey}
 use Rattle.calculus.specs.declared.reply.Refusal.{Refusal}
 use Rattle.calculus.specs.declared.request.CopyCol.{CopyCol}
 use Rattle.calculus.specs.Database.{Db}
-use Rattle.calculus.specs.Replacement.{first_cause}
+use Rattle.calculus.specs.Replacement.{first_refusal}
 use Rattle.calculus.specs.Stored.{rows_at, kinds_at}
 use Rattle.fault_io.specs.Files.{Files, fetched, stored}
 use Rattle.quel_meaning.specs.Copying.{bad_row, copied_from, copied_into, file_appended, file_of_constant, file_of_rows, most_file_bytes, refusal, rows_appended, rows_in_file}
-use Rattle.quel_meaning.specs.Planned.{owner_causes}
+use Rattle.quel_meaning.specs.Planned.{owner_refusals}
 use Rattle.copy_util.specs.Causes.{Copies, Refuses}
 use Rattle.copy_util.specs.Reading.{ComesOf, rows_from_bytes, short_file}
 use Rattle.copy_util.specs.declared.fault.CopyFault.{CopyFault}
@@ -26,18 +26,18 @@ put_as db rel columns o = elim o as (λ o. Result (List ℕ) Refusal) [
   | None ↦ elim (file_of_rows columns (rows_at db rel)) as (λ r. Result (List ℕ) Refusal) [ Ok bytes ↦ Ok bytes | Err row ↦ Err (bad_row row) ]
 ]
 
-pub into_refused : (db : Db) (user : List ℕ) (rel : RelKey) (columns : List CopyCol) (number : ℕ) → Some number ≡ first_cause (owner_causes db user rel)
+pub into_refused : (db : Db) (user : List ℕ) (rel : RelKey) (columns : List CopyCol) (number : ℕ) → Some number ≡ first_refusal (owner_refusals db user rel)
     → copied_into db user rel columns ≡ Err (refusal number)
 unfolding copied_into
 into_refused db user rel columns number e = ap (put_as db rel columns) (sym e)
 
-pub into_made : (db : Db) (user : List ℕ) (rel : RelKey) (columns : List CopyCol) (bytes : List ℕ) → None ≡ first_cause (owner_causes db user rel)
+pub into_made : (db : Db) (user : List ℕ) (rel : RelKey) (columns : List CopyCol) (bytes : List ℕ) → None ≡ first_refusal (owner_refusals db user rel)
     → file_of_rows columns (rows_at db rel) ≡ Ok bytes → copied_into db user rel columns ≡ Ok bytes
 unfolding copied_into
 into_made db user rel columns bytes e made =
     ap (put_as db rel columns) (sym e) ∙ ap (λ r. elim r as (λ r. Result (List ℕ) Refusal) [ Ok bytes ↦ Ok bytes | Err row ↦ Err (bad_row row) ]) made
 
-pub into_bad : (db : Db) (user : List ℕ) (rel : RelKey) (columns : List CopyCol) (row : ℕ) → None ≡ first_cause (owner_causes db user rel)
+pub into_bad : (db : Db) (user : List ℕ) (rel : RelKey) (columns : List CopyCol) (row : ℕ) → None ≡ first_refusal (owner_refusals db user rel)
     → file_of_rows columns (rows_at db rel) ≡ Err row → copied_into db user rel columns ≡ Err (bad_row row)
 unfolding copied_into
 into_bad db user rel columns row e made =
@@ -51,12 +51,12 @@ took_as db files rel columns constant o = elim o as (λ o. Result DbChange Refus
   | None ↦ file_appended db rel columns (fetched files (file_of_constant constant))
 ]
 
-pub from_refused : (db : Db) (files : Files) (user : List ℕ) (rel : RelKey) (columns : List CopyCol) (constant : List ℕ) (number : ℕ) → Some number ≡ first_cause (owner_causes db user rel)
+pub from_refused : (db : Db) (files : Files) (user : List ℕ) (rel : RelKey) (columns : List CopyCol) (constant : List ℕ) (number : ℕ) → Some number ≡ first_refusal (owner_refusals db user rel)
     → copied_from db files user rel columns constant ≡ Err (refusal number)
 unfolding copied_from
 from_refused db files user rel columns constant number e = ap (took_as db files rel columns constant) (sym e)
 
-unrefused : (db : Db) (files : Files) (user : List ℕ) (rel : RelKey) (columns : List CopyCol) (constant : List ℕ) → None ≡ first_cause (owner_causes db user rel)
+unrefused : (db : Db) (files : Files) (user : List ℕ) (rel : RelKey) (columns : List CopyCol) (constant : List ℕ) → None ≡ first_refusal (owner_refusals db user rel)
     → copied_from db files user rel columns constant ≡ file_appended db rel columns (fetched files (file_of_constant constant))
 unfolding copied_from
 unrefused db files user rel columns constant e = ap (took_as db files rel columns constant) (sym e)
@@ -82,10 +82,10 @@ short_refused db rel columns (Some file) r e = go (nat_lt most_file_bytes (lengt
     go true e = let same : refusal 14 ≡ r = cc e in ap Err same
     go false e = cc e
 
--- what is told of one result is told of another that is the same
-pub told_by : {T : Type 0} (x y : Result T Refusal) (result : Result T CopyFault) → x ≡ y
+-- what is known of one result is known of another that is the same
+pub known_by : {T : Type 0} (x y : Result T Refusal) (result : Result T CopyFault) → x ≡ y
     → Copies (λ t. y ≡ Ok t) (λ r. y ≡ Err r) result → Copies (λ t. x ≡ Ok t) (λ r. x ≡ Err r) result
-told_by {T} x y result e = subst (λ x. Copies (λ t. x ≡ Ok t) (λ r. x ≡ Err r) result) (sym e)
+known_by {T} x y result e = subst (λ x. Copies (λ t. x ≡ Ok t) (λ r. x ≡ Err r) result) (sym e)
 
 pub refused_by : (P Q : Refusal → Type 0) → ((r : Refusal) → P r → Q r) → (fault : CopyFault) → Refuses P fault → Refuses Q fault
 refused_by P Q so (No number) p = so (refusal number) p
@@ -97,19 +97,19 @@ refused_by P Q so OutOfMemory p = p
 
 -- the bytes were fetched, and then their rows read
 pub from_bytes : (db : Db) (files : Files) (user : List ℕ) (rel : RelKey) (columns : List CopyCol) (constant bytes : List ℕ) (result : Result DbChange CopyFault)
-    → None ≡ first_cause (owner_causes db user rel) → short_file (fetched files (file_of_constant constant)) ≡ Ok bytes
+    → None ≡ first_refusal (owner_refusals db user rel) → short_file (fetched files (file_of_constant constant)) ≡ Ok bytes
     → Copies (λ c. rows_from_bytes db rel columns bytes ≡ Ok c) (λ r. rows_from_bytes db rel columns bytes ≡ Err r) result
     → Copies (λ c. copied_from db files user rel columns constant ≡ Ok c) (λ r. copied_from db files user rel columns constant ≡ Err r) result
-from_bytes db files user rel columns constant bytes result e short told =
-    told_by (copied_from db files user rel columns constant) (rows_from_bytes db rel columns bytes) result
-    (unrefused db files user rel columns constant e ∙ short_read db rel columns (fetched files (file_of_constant constant)) bytes short) told
+from_bytes db files user rel columns constant bytes result e short known =
+    known_by (copied_from db files user rel columns constant) (rows_from_bytes db rel columns bytes) result
+    (unrefused db files user rel columns constant e ∙ short_read db rel columns (fetched files (file_of_constant constant)) bytes short) known
 
 -- none were fetched
 pub from_no_bytes : (db : Db) (files : Files) (user : List ℕ) (rel : RelKey) (columns : List CopyCol) (constant : List ℕ) (fault : CopyFault)
-    → None ≡ first_cause (owner_causes db user rel) → Refuses (λ r. short_file (fetched files (file_of_constant constant)) ≡ Err r) fault
+    → None ≡ first_refusal (owner_refusals db user rel) → Refuses (λ r. short_file (fetched files (file_of_constant constant)) ≡ Err r) fault
     → Refuses (λ r. copied_from db files user rel columns constant ≡ Err r) fault
-from_no_bytes db files user rel columns constant fault e told =
-    refused_by _ _ (λ r short. unrefused db files user rel columns constant e ∙ short_refused db rel columns (fetched files (file_of_constant constant)) r short) fault told
+from_no_bytes db files user rel columns constant fault e known =
+    refused_by _ _ (λ r short. unrefused db files user rel columns constant e ∙ short_refused db rel columns (fetched files (file_of_constant constant)) r short) fault known
 
 -- ---- whatever the shelf tells
 
@@ -121,11 +121,11 @@ some_file constant bytes few =
 
 -- what is made of a file's bytes is made of a copy from it
 pub comes_of : (db : Db) (user : List ℕ) (rel : RelKey) (columns : List CopyCol) (constant bytes : List ℕ) (result : Result DbChange CopyFault)
-    → None ≡ first_cause (owner_causes db user rel) → length bytes ≤ most_file_bytes
+    → None ≡ first_refusal (owner_refusals db user rel) → length bytes ≤ most_file_bytes
     → Copies (λ change. rows_from_bytes db rel columns bytes ≡ Ok change) (λ refusal. rows_from_bytes db rel columns bytes ≡ Err refusal) result
     → IfOk result (ComesOf db user rel columns constant)
-comes_of db user rel columns constant bytes (Ok change) none few told = (
+comes_of db user rel columns constant bytes (Ok change) none few known = (
   stored [] (file_of_constant constant) bytes,
-  from_bytes db (stored [] (file_of_constant constant) bytes) user rel columns constant bytes (Ok change) none (some_file constant bytes few) told,
+  from_bytes db (stored [] (file_of_constant constant) bytes) user rel columns constant bytes (Ok change) none (some_file constant bytes few) known,
 )
-comes_of db user rel columns constant bytes (Err fault) none few told = tt
+comes_of db user rel columns constant bytes (Err fault) none few known = tt

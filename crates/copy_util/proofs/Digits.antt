@@ -8,7 +8,7 @@ use Rattle.std.proofs.lemmas.Int.Digits.{digits_value_more}
 use Rattle.std.proofs.lemmas.List.{take_all}
 use Rattle.std.proofs.lemmas.List.Folds.{list_all_at}
 use Rattle.calculus.specs.Name.{is_digit}
-use Rattle.copy_util.specs.Reading.{most_told}
+use Rattle.copy_util.specs.Reading.{most_apart}
 
 digit_is : (c : ℕ) → IsTrue (is_digit c) → digit_value c ≡ c - 48
 digit_is c t = grind (arith, nat_tests, t)
@@ -23,12 +23,12 @@ each_digit digits i all less = go (is_digit (get_or digits i 0)) refl
 capped : (most before digit : ℕ) → min (min most before * 10 + digit) most ≡ min most (before * 10 + digit)
 capped most before digit = omega arith
 
-pub one_more_digit : (digits : List ℕ) (i before : ℕ) → IsTrue (list_all is_digit digits) → i < length digits → before ≡ min most_told (digits_value 10 (take i digits))
-    → min (before * 10 + (get_or digits i 0 - 48)) most_told ≡ min most_told (digits_value 10 (take (i + 1) digits))
+pub one_more_digit : (digits : List ℕ) (i before : ℕ) → IsTrue (list_all is_digit digits) → i < length digits → before ≡ min most_apart (digits_value 10 (take i digits))
+    → min (before * 10 + (get_or digits i 0 - 48)) most_apart ≡ min most_apart (digits_value 10 (take (i + 1) digits))
 one_more_digit digits i before all less so_far =
-    (λ j. min (so_far j * 10 + sym (digit_is (get_or digits i 0) (each_digit digits i all less)) j) most_told)
-    ∙ capped most_told (digits_value 10 (take i digits)) (digit_value (get_or digits i 0))
-    ∙ ap (min most_told) (sym (digits_value_more 10 digits i less))
+    (λ j. min (so_far j * 10 + sym (digit_is (get_or digits i 0) (each_digit digits i all less)) j) most_apart)
+    ∙ capped most_apart (digits_value 10 (take i digits)) (digit_value (get_or digits i 0))
+    ∙ ap (min most_apart) (sym (digits_value_more 10 digits i less))
 
-pub all_digits : (digits : List ℕ) (i number : ℕ) → length digits ≤ i → number ≡ min most_told (digits_value 10 (take i digits)) → number ≡ min most_told (digits_value 10 digits)
-all_digits digits i number end so_far = so_far ∙ ap (λ ds. min most_told (digits_value 10 ds)) (take_all i digits end)
+pub all_digits : (digits : List ℕ) (i number : ℕ) → length digits ≤ i → number ≡ min most_apart (digits_value 10 (take i digits)) → number ≡ min most_apart (digits_value 10 digits)
+all_digits digits i number end so_far = so_far ∙ ap (λ ds. min most_apart (digits_value 10 ds)) (take_all i digits end)

@@ -54,29 +54,29 @@ numbered_further number (Some x ∷ xs) = ap (item_before x) (numbered_further (
 
 -- ---- rows
 
-abbrev told : List Kind → List CopyCol → Result (List (List Value)) ℕ → Result (List Row) ℕ
-told kinds columns r = elim r as (λ r. Result (List Row) ℕ) [ Ok values ↦ Ok (map (record_row kinds columns) values) | Err number ↦ Err number ]
+abbrev as_rows : List Kind → List CopyCol → Result (List (List Value)) ℕ → Result (List Row) ℕ
+as_rows kinds columns r = elim r as (λ r. Result (List Row) ℕ) [ Ok values ↦ Ok (map (record_row kinds columns) values) | Err number ↦ Err number ]
 
 abbrev row_before : Row → Result (List Row) ℕ → Result (List Row) ℕ
 row_before row (Ok rows) = Ok (row ∷ rows)
 row_before row (Err number) = Err (suc number)
 
-told_before : (kinds : List Kind) (columns : List CopyCol) (values : List Value) (r : Result (List (List Value)) ℕ)
-    → told kinds columns (item_before values (further r)) ≡ row_before (record_row kinds columns values) (told kinds columns r)
-told_before kinds columns values (Ok others) = refl
-told_before kinds columns values (Err number) = refl
+known_before : (kinds : List Kind) (columns : List CopyCol) (values : List Value) (r : Result (List (List Value)) ℕ)
+    → as_rows kinds columns (item_before values (further r)) ≡ row_before (record_row kinds columns values) (as_rows kinds columns r)
+known_before kinds columns values (Ok others) = refl
+known_before kinds columns values (Err number) = refl
 
 row_first : (kinds : List Kind) (columns : List CopyCol) (b : ℕ) (bytes rest : List ℕ) (values : List Value) → record_values kinds columns (b ∷ bytes) ≡ Some (values, rest)
     → rows_in_file kinds columns (b ∷ bytes) ≡ row_before (record_row kinds columns values) (rows_in_file kinds columns (drop (length bytes - length rest) bytes))
 unfolding rows_in_file
 row_first kinds columns b bytes rest values e =
-    ap (λ xs. told kinds columns (numbered_from 1 xs)) (record_then (record_values kinds columns) b bytes rest values e)
-    ∙ ap (λ r. told kinds columns (item_before values r)) (numbered_further 1 (records (record_values kinds columns) 0 (drop (length bytes - length rest) bytes)))
-    ∙ told_before kinds columns values (numbered_from 1 (records (record_values kinds columns) 0 (drop (length bytes - length rest) bytes)))
+    ap (λ xs. as_rows kinds columns (numbered_from 1 xs)) (record_then (record_values kinds columns) b bytes rest values e)
+    ∙ ap (λ r. as_rows kinds columns (item_before values r)) (numbered_further 1 (records (record_values kinds columns) 0 (drop (length bytes - length rest) bytes)))
+    ∙ known_before kinds columns values (numbered_from 1 (records (record_values kinds columns) 0 (drop (length bytes - length rest) bytes)))
 
 bad_first : (kinds : List Kind) (columns : List CopyCol) (b : ℕ) (bytes : List ℕ) → record_values kinds columns (b ∷ bytes) ≡ None → rows_in_file kinds columns (b ∷ bytes) ≡ Err 1
 unfolding rows_in_file
-bad_first kinds columns b bytes e = ap (λ xs. told kinds columns (numbered_from 1 xs)) (bad_then (record_values kinds columns) b bytes e)
+bad_first kinds columns b bytes e = ap (λ xs. as_rows kinds columns (numbered_from 1 xs)) (bad_then (record_values kinds columns) b bytes e)
 
 nothing_left : (kinds : List Kind) (columns : List CopyCol) → rows_in_file kinds columns [] ≡ Ok []
 unfolding rows_in_file

@@ -26,12 +26,12 @@ use Rattle.quel_meaning.specs.Columns.{is_copy_form}
 use Rattle.quel_meaning.specs.Fit.{columns_fit, is_fit, fits, suits, utility_fits}
 use Rattle.quel_meaning.specs.Copying.{copied_from}
 use Rattle.quel_meaning.specs.FitQueries.{can_be_ranged_over, kept_alone}
-use Rattle.quel_meaning.specs.Planned.{owner_causes}
+use Rattle.quel_meaning.specs.Planned.{owner_refusals}
 use Rattle.quel_meaning.specs.SpelledTree.{tree_is_spelled, utility_is_spelled}
 use Rattle.copy_util.specs.Causes.{Copies}
 use Rattle.copy_util.specs.Copies.{IsCopy}
 use Rattle.copy_util.specs.declared.fault.CopyFault.{CopyFault}
-use Rattle.copy_util.proofs.Copied.{told_by}
+use Rattle.copy_util.proofs.Copied.{known_by}
 use Rattle.copy_util.specs.Reading.{ComesOf, are_readable, have_forms, is_readable, is_wide, WouldBeReadable}
 
 -- what a copy that is fit has
@@ -68,27 +68,27 @@ pub fit_readable : (db : Db) (user : List ℕ) (u : Utility) (rel : RelKey) (col
 fit_readable db user u rel columns from file is same h free =
     let fit = copy_fits db user rel columns from file (ap (λ u. is_fit db user (checked.Utility u)) (sym same) ∙ h) in
     let there = named_is_ranged db rel (both (can_be_ranged_over db rel) (columns_fit db rel columns) fit).0 in
-    let absent = all_absent (owner_causes db user rel) free in
+    let absent = all_absent (owner_refusals db user rel) free in
     there_is (relation_at db rel) (base_relation db rel there absent.0 absent.1.0) λ relation found.
     let stored : IsTrue (are_stored relation.info.attrs) = found_has (λ r. IsTrue (are_stored r.info.attrs)) (λ r. same_key r.info.key rel) db.relations relation
     (each_true (λ r. are_stored r.info.attrs) db.relations is.relations_are_stored) found in
     readable_by (kinds_at db rel)
     (λ i. ap (λ kinds. is_wide (slice_get kinds i)) (its_kinds db rel relation found) ∙ stored_kind relation.info.attrs i stored) columns (fit_forms db user u rel columns from file same h)
 
--- ---- what is told of a copy from a file
+-- ---- what is known of a copy from a file
 
-pub copy_told : (db : Db) (files : Files) (user : List ℕ) (u : Utility) (rel : RelKey) (columns cols : List CopyCol) (from : Bool) (file bytes : List ℕ) (result : Result DbChange CopyFault)
+pub copy_known : (db : Db) (files : Files) (user : List ℕ) (u : Utility) (rel : RelKey) (columns cols : List CopyCol) (from : Bool) (file bytes : List ℕ) (result : Result DbChange CopyFault)
     → IsDatabase db → u ≡ utility.Copy rel columns from file → cols ≡ columns → bytes ≡ file → is_fit db user (checked.Utility u) ≡ true
     → Copies (λ c. copied_from db files user rel cols bytes ≡ Ok c) (λ r. copied_from db files user rel cols bytes ≡ Err r) result
     → (k : IsCopy u true)
     → Copies (λ c. copied_from db files user k.rel k.columns k.constant ≡ Ok c) (λ r. copied_from db files user k.rel k.columns k.constant ≡ Err r) result
-copy_told db files user u rel columns cols from file bytes result is same listed named fit told k =
+copy_known db files user u rel columns cols from file bytes result is same listed named fit known k =
     let both_are : utility.Copy k.rel k.columns true k.constant ≡ utility.Copy rel columns from file = sym k.is ∙ same in
     let rel_is : k.rel ≡ rel = cc both_are in
     let columns_are : k.columns ≡ cols = (let e : k.columns ≡ columns = cc both_are in e ∙ sym listed) in
     let file_is : k.constant ≡ bytes = (let e : k.constant ≡ file = cc both_are in e ∙ sym named) in
-    told_by (copied_from db files user k.rel k.columns k.constant) (copied_from db files user rel cols bytes) result
-    (λ i. copied_from db files user (rel_is i) (columns_are i) (file_is i)) told
+    known_by (copied_from db files user k.rel k.columns k.constant) (copied_from db files user rel cols bytes) result
+    (λ i. copied_from db files user (rel_is i) (columns_are i) (file_is i)) known
 
 -- a change that comes of a copy that is fit is lawful
 pub copy_lawful : (db : Db) (user : List ℕ) (u : Utility) (rel : RelKey) (columns cols : List CopyCol) (from : Bool) (file bytes : List ℕ) (result : Result DbChange CopyFault)

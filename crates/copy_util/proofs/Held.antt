@@ -13,15 +13,15 @@ use Rattle.calculus.specs.Kinds.{is_text_kind}
 use Rattle.calculus.specs.Text.{text_of, trimmed}
 use Rattle.calculus.specs.Value.{number_fits}
 use Rattle.quel_meaning.specs.Columns.{fitting, printed_value, spelled_signed, without_front_blanks}
-use Rattle.copy_util.specs.Reading.{held, is_wide, most_told}
+use Rattle.copy_util.specs.Reading.{held, is_wide, most_apart}
 
-too_great : (n : ℕ) (d : Domain) → most_told ≤ n → number_fits (pos n) d ≡ false
+too_great : (n : ℕ) (d : Domain) → most_apart ≤ n → number_fits (pos n) d ≡ false
 too_great n I1 h = grind (arith, ints, nat_tests, h)
 too_great n I2 h = grind (arith, ints, nat_tests, h)
 too_great n I4 h = grind (arith, ints, nat_tests, h)
 too_great n (C w) h = refl
 
-too_small : (n : ℕ) (d : Domain) → most_told ≤ suc n → number_fits (negsuc n) d ≡ false
+too_small : (n : ℕ) (d : Domain) → most_apart ≤ suc n → number_fits (negsuc n) d ≡ false
 too_small n I1 h = grind (arith, ints, nat_tests, h)
 too_small n I2 h = grind (arith, ints, nat_tests, h)
 too_small n I4 h = grind (arith, ints, nat_tests, h)
@@ -31,21 +31,21 @@ neither_fits : (d : Domain) (y z : ℤ) → number_fits y d ≡ false → number
 neither_fits d y z e f = ap (λ (b : Bool). if b then Some (Int y) else None) e ∙ sym (ap (λ (b : Bool). if b then Some (Int z) else None) f)
 
 of_domain : (d : Domain) (z : ℤ) → fitting (Some (Of d)) (Int (held z)) ≡ fitting (Some (Of d)) (Int z)
-of_domain d (pos n) = go (nat_le n most_told) refl
+of_domain d (pos n) = go (nat_le n most_apart) refl
   where
-    go : (b : Bool) → nat_le n most_told ≡ b → fitting (Some (Of d)) (Int (held (pos n))) ≡ fitting (Some (Of d)) (Int (pos n))
-    go true e = let same : min most_told n ≡ n = grind (arith, nat_tests, e) in ap (λ n. fitting (Some (Of d)) (Int (pos n))) same
+    go : (b : Bool) → nat_le n most_apart ≡ b → fitting (Some (Of d)) (Int (held (pos n))) ≡ fitting (Some (Of d)) (Int (pos n))
+    go true e = let same : min most_apart n ≡ n = grind (arith, nat_tests, e) in ap (λ n. fitting (Some (Of d)) (Int (pos n))) same
     go false e =
-        let most : most_told ≤ n = grind (arith, nat_tests, e) in
-        let same : min most_told n ≡ most_told = omega (arith, most) in
-        neither_fits d (held (pos n)) (pos n) (ap (λ n. number_fits (pos n) d) same ∙ too_great most_told d (omega arith)) (too_great n d most)
-of_domain d (negsuc n) = go (nat_le (suc n) most_told) refl
+        let most : most_apart ≤ n = grind (arith, nat_tests, e) in
+        let same : min most_apart n ≡ most_apart = omega (arith, most) in
+        neither_fits d (held (pos n)) (pos n) (ap (λ n. number_fits (pos n) d) same ∙ too_great most_apart d (omega arith)) (too_great n d most)
+of_domain d (negsuc n) = go (nat_le (suc n) most_apart) refl
   where
-    go : (b : Bool) → nat_le (suc n) most_told ≡ b → fitting (Some (Of d)) (Int (held (negsuc n))) ≡ fitting (Some (Of d)) (Int (negsuc n))
-    go true e = let same : min most_told (suc n) ≡ suc n = grind (arith, nat_tests, e) in ap (λ n. fitting (Some (Of d)) (Int (neg_ℤ (pos n)))) same
+    go : (b : Bool) → nat_le (suc n) most_apart ≡ b → fitting (Some (Of d)) (Int (held (negsuc n))) ≡ fitting (Some (Of d)) (Int (negsuc n))
+    go true e = let same : min most_apart (suc n) ≡ suc n = grind (arith, nat_tests, e) in ap (λ n. fitting (Some (Of d)) (Int (neg_ℤ (pos n)))) same
     go false e =
-        let most : most_told ≤ suc n = grind (arith, nat_tests, e) in
-        let same : min most_told (suc n) ≡ most_told = omega (arith, most) in
+        let most : most_apart ≤ suc n = grind (arith, nat_tests, e) in
+        let same : min most_apart (suc n) ≡ most_apart = omega (arith, most) in
         neither_fits d (held (negsuc n)) (negsuc n) (ap (λ n. number_fits (neg_ℤ (pos n)) d) same ∙ too_small 9999999999 d (omega arith)) (too_small n d most)
 
 pub held_fitting : (kind : Option Kind) (z : ℤ) → is_wide kind ≡ false → fitting kind (Int (held z)) ≡ fitting kind (Int z)

@@ -1,12 +1,11 @@
 pub mod Appended
-pub mod Blank
 pub mod Copied
 pub mod Cuts
 pub mod Digits
 pub mod FileRead
 pub mod Fitting
 pub mod Held
-pub mod Judged
+pub mod RuleKeeping
 pub mod RecordRead
-pub mod Told
+pub mod Known
 pub mod Written

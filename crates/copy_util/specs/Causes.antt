@@ -3,7 +3,7 @@ use Rattle.std.specs.Prelude.{◌≡◌, ℕ, ◌≤◌, Option, Result, Ok, Err
 use Rattle.calculus.specs.declared.reply.Refusal.{Refusal}
 use Rattle.calculus.specs.Database.{Db}
 use Rattle.fault_io.specs.Causes.{Rose}
-use Rattle.am_traits.specs.Causes.{MayCome}
+use Rattle.base_trait.specs.Causes.{MayCome}
 use Rattle.quel_meaning.specs.Copying.{refusal, bad_row}
 use Rattle.copy_util.specs.declared.fault.CopyFault.{CopyFault}
 use Rattle.copy_util.specs.declared.fault.CopyFault.TheVariants.{No, BadRow, NoFile, Shelf, Base, OutOfMemory}
@@ -24,21 +24,21 @@ Copies made refused (Err fault) = Refuses refused fault
 
 -- a fault of the database that may come, or anything else where its count of faults stayed
 abbrev pub IsCaused : {T : Type 0} → Option Db → ℕ → ℕ → Result T CopyFault → Type 0
-IsCaused told before now (Err (Base fault)) = MayCome told before now fault
-IsCaused told before now result = now ≡ before
+IsCaused known before now (Err (Base fault)) = MayCome known before now fault
+IsCaused known before now result = now ≡ before
 
 -- the counts of faults never fall; a fault of the database comes only where it may, and anything else only where its count stayed; one of the shelf comes only where its count rose, and else that stayed
-pub record HasCopyCause {T : Type 0} (told : Option Db) (before now shelf_before shelf_now : ℕ) (result : Result T CopyFault) : Type 0 where
+pub record HasCopyCause {T : Type 0} (known : Option Db) (before now shelf_before shelf_now : ℕ) (result : Result T CopyFault) : Type 0 where
   pub later : before ≤ now
-  pub caused : IsCaused told before now result
+  pub caused : IsCaused known before now result
   pub shelf_later : shelf_before ≤ shelf_now
   pub shelf : IsErrOf result Shelf → Rose shelf_before shelf_now
   pub otherwise : (IsErrOf result Shelf → ⊥) → shelf_now ≡ shelf_before
 
 -- of the database alone: the count of faults never falls, a fault of the database comes only where it may, and anything else only where the count stayed; none is of the shelf, and none says that a file isn't there
-pub record HasBaseCause {T : Type 0} (told : Option Db) (before now : ℕ) (result : Result T CopyFault) : Type 0 where
+pub record HasBaseCause {T : Type 0} (known : Option Db) (before now : ℕ) (result : Result T CopyFault) : Type 0 where
   pub later : before ≤ now
-  pub caused : IsCaused told before now result
+  pub caused : IsCaused known before now result
   pub shelf : IsErrOf result Shelf → ⊥
   pub file : IsErrOf result NoFile → ⊥
 

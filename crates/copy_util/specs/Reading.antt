@@ -9,26 +9,26 @@ use Rattle.calculus.specs.declared.request.CopyForm.TheVariants.{Bin, Fixed, Unt
 use Rattle.calculus.specs.Rows.{Row}
 use Rattle.calculus.specs.Lists.{is_any}
 use Rattle.calculus.specs.Database.{Db}
-use Rattle.calculus.specs.Replacement.{first_cause}
+use Rattle.calculus.specs.Replacement.{first_refusal}
 use Rattle.calculus.specs.Stored.{kinds_at}
 use Rattle.calculus.specs.declared.query.RelKey.{RelKey}
 use Rattle.calculus.specs.declared.change.DbChange.{DbChange}
 use Rattle.fault_io.specs.Files.{Files}
 use Rattle.calculus.specs.declared.reply.Refusal.{Refusal}
 use Rattle.quel_meaning.specs.Copying.{copied_from, bad_row, most_file_bytes, refusal, rows_appended, rows_in_file}
-use Rattle.quel_meaning.specs.Planned.{owner_causes}
+use Rattle.quel_meaning.specs.Planned.{owner_refusals}
 use Rattle.quel_meaning.specs.Columns.{is_copy_form, column_value}
 
 -- ---- numbers
 
 -- the greatest size of a number that is told apart from greater ones; no domain has it
-abbrev pub most_told : ℕ
-most_told = 10000000000
+abbrev pub most_apart : ℕ
+most_apart = 10000000000
 
 -- the number, or the one of its sign whose size is the greatest told, where its own size is greater
 abbrev pub held : ℤ → ℤ
-held (pos n) = pos (min most_told n)
-held (negsuc n) = neg_ℤ (pos (min most_told (suc n)))
+held (pos n) = pos (min most_apart n)
+held (negsuc n) = neg_ℤ (pos (min most_apart (suc n)))
 
 -- ---- columns
 
@@ -92,7 +92,7 @@ short_file (Some bytes) = elim (nat_lt most_file_bytes (length bytes)) [ true �
 
 -- where nothing in the relation refuses the user, every column is readable
 abbrev pub WouldBeReadable : Db → List ℕ → RelKey → List CopyCol → Type 0
-WouldBeReadable db user rel columns = first_cause (owner_causes db user rel) ≡ None → IsTrue (are_readable (kinds_at db rel) columns)
+WouldBeReadable db user rel columns = first_refusal (owner_refusals db user rel) ≡ None → IsTrue (are_readable (kinds_at db rel) columns)
 
 -- the change that appends the rows of these bytes to the relation, or its refusal
 abbrev pub rows_from_bytes : Db → RelKey → List CopyCol → List ℕ → Result DbChange Refusal

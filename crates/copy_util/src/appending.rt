@@ -7,13 +7,13 @@ ghost use Rattle.calculus.specs.Replacement.{without_rows};
 ghost use Rattle.calculus.specs.Rows.{set_of};
 ghost use Rattle.calculus.specs.Stored.{rows_at};
 ghost use Rattle.calculus.specs.declared.change.DbChange.TheVariants as change;
-ghost use Rattle.am_traits.specs.Causes.{HasCause};
+ghost use Rattle.base_trait.specs.Causes.{HasCause};
 ghost use Rattle.quel_meaning.specs.Copying.{keeps_rules, refusal as refusal_of, rows_appended};
 ghost use Rattle.copy_util.specs.Causes.{Copies, HasBaseCause};
 
 use crate::CopyFault;
-use crate::judging::kept_rows;
-use am_traits::{Base, BaseFault};
+use crate::rule_keeping::kept_rows;
+use base_trait::{Base, BaseFault};
 use calculus::{DbChange, List, OutOfMemory, RelKey, Row, RowSet, TryCopy};
 use std::alloc::Global;
 
@@ -37,7 +37,7 @@ fn absent_rows<B: Base>(
     rel: &RelKey,
     rows: Vec<Row>,
 ) -> Result<Vec<Row>, BaseFault>
-    ensures told { (db : Db) → B.database base.old ≡ Some db → IfOk result (λ absent. absent.items ≡ without_rows (rows_at db rel.now) rows.items) }
+    ensures known { (db : Db) → B.database base.old ≡ Some db → IfOk result (λ absent. absent.items ≡ without_rows (rows_at db rel.now) rows.items) }
     ensures kept { B.database base.new ≡ B.database base.old }
     ensures stays { (s : Db) → B.schema base.old ≡ Some s → B.schema base.new ≡ Some s }
     ensures asked { (b : B) → B.asked b base.old → B.asked b base.new }
@@ -58,7 +58,7 @@ fn lasting_rows<B: Base>(
     rel: &RelKey,
     rows: Vec<Row>,
 ) -> Result<RowSet, BaseFault>
-    ensures told { (db : Db) → B.database base.old ≡ Some db → IfOk result (λ set. set ≡ set_of (filter (keeps_rules db rel.now) rows.items)) }
+    ensures known { (db : Db) → B.database base.old ≡ Some db → IfOk result (λ set. set ≡ set_of (filter (keeps_rules db rel.now) rows.items)) }
     ensures kept { B.database base.new ≡ B.database base.old }
     ensures stays { (s : Db) → B.schema base.old ≡ Some s → B.schema base.new ≡ Some s }
     ensures asked { (b : B) → B.asked b base.old → B.asked b base.new }
@@ -85,7 +85,7 @@ fn coming_rows<B: Base>(
     rel: &RelKey,
     rows: Vec<Row>,
 ) -> Result<Vec<Row>, BaseFault>
-    ensures told { (db : Db) → B.database base.old ≡ Some db
+    ensures known { (db : Db) → B.database base.old ≡ Some db
         → IfOk result (λ coming. coming.items ≡ without_rows (rows_at db rel.now) (set_of (filter (keeps_rules db rel.now) rows.items))) }
     ensures kept { B.database base.new ≡ B.database base.old }
     ensures stays { (s : Db) → B.schema base.old ≡ Some s → B.schema base.new ≡ Some s }
@@ -105,7 +105,7 @@ fn has_no_room<B: Base>(
     rel: &RelKey,
     more: usize,
 ) -> Result<bool, BaseFault>
-    ensures told { (db : Db) → B.database base.old ≡ Some db → IfOk result (λ b. b ≡ nat_lt most_rows (length (rows_at db rel.now) + more)) }
+    ensures known { (db : Db) → B.database base.old ≡ Some db → IfOk result (λ b. b ≡ nat_lt most_rows (length (rows_at db rel.now) + more)) }
     ensures kept { B.database base.new ≡ B.database base.old }
     ensures stays { (s : Db) → B.schema base.old ≡ Some s → B.schema base.new ≡ Some s }
     ensures asked { (b : B) → B.asked b base.old → B.asked b base.new }
@@ -139,7 +139,7 @@ fn change_with_room<B: Base>(
     rel: &RelKey,
     coming: Vec<Row>,
 ) -> Result<DbChange, CopyFault>
-    ensures told { (db : Db) → B.database base.old ≡ Some db
+    ensures known { (db : Db) → B.database base.old ≡ Some db
         → Copies (λ c. (c ≡ change.Rows rel.now [] coming.items) × IsFalse (nat_lt most_rows (length (rows_at db rel.now) + length coming.items)))
         (λ refusal. (refusal ≡ refusal_of 29) × IsTrue (nat_lt most_rows (length (rows_at db rel.now) + length coming.items))) result }
     ensures kept { B.database base.new ≡ B.database base.old }
@@ -168,7 +168,7 @@ pub(crate) fn rows_appended<B: Base>(
     rel: &RelKey,
     rows: Vec<Row>,
 ) -> Result<DbChange, CopyFault>
-    ensures told { (db : Db) → B.database base.old ≡ Some db
+    ensures known { (db : Db) → B.database base.old ≡ Some db
         → Copies (λ c. rows_appended db rel.now rows.items ≡ Planned c) (λ refusal. rows_appended db rel.now rows.items ≡ Refused refusal) result }
     ensures kept { B.database base.new ≡ B.database base.old }
     ensures stays { (s : Db) → B.schema base.old ≡ Some s → B.schema base.new ≡ Some s }

@@ -11,8 +11,7 @@ ghost use Rattle.copy_util.specs.Reading.{IsPieceOf, is_wide};
 use crate::numbers::spelled_signed;
 use crate::pieces::between_blanks;
 use byteorder::{ByteOrder, LittleEndian};
-use calculus::{CopyForm, Kind, OutOfMemory, Text, Value};
-use quel_refusals::is_text_kind;
+use calculus::{CopyForm, Kind, OutOfMemory, Text, Value, is_text_kind};
 use std::alloc::Global;
 
 /// Whether the value is one of the kind.

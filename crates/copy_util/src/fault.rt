@@ -3,7 +3,7 @@
 ghost use Rattle.std.specs.Prelude.{◌≡◌};
 ghost use Rattle.copy_util.specs.declared.fault.CopyFault.TheVariants.{Base as OfBase, OutOfMemory as NoMemory};
 
-use am_traits::BaseFault;
+use base_trait::BaseFault;
 use calculus::OutOfMemory;
 
 /// Why rows are not copied.

@@ -3,7 +3,7 @@
 ghost use Rattle.std.specs.Prelude.{◌≡◌, IfOk};
 ghost use Rattle.quel_meaning.specs.Copying.{file_of_constant};
 
-use calculus::{OutOfMemory, next_mark};
+use calculus::{OutOfMemory, next_unescaped};
 use std::alloc::Global;
 
 /// The name of the file that a text constant names: its bytes with escapes removed, and with the
@@ -13,8 +13,8 @@ pub(crate) fn file_of_constant(alloc: Global, written: &[u8]) -> Result<Vec<u8>,
 {
     let mut name = Vec::new(alloc);
     let mut rest = written;
-    'bytes: while let Some((mark, behind)) = next_mark(rest) {
-        name.push(mark.byte)?;
+    'bytes: while let Some((unescaped_byte, behind)) = next_unescaped(rest) {
+        name.push(unescaped_byte.byte)?;
         rest = behind;
     }
     Ok(name)

@@ -17,19 +17,19 @@ use crate::appending::rows_appended;
 use crate::file_name::file_of_constant;
 use crate::forms::are_readable;
 use crate::rows_read::read_rows;
-use am_traits::{Base, BaseFault};
+use base_trait::{Base, BaseFault};
 use calculus::{CopyCol, DbChange, Kind, Name, OutOfMemory, RelKey, Row, Utility};
 use fault_io::{Shelf, ShelfFault};
-use quel_refusals::kinds_at;
+use ovqp::kinds_at;
 use std::alloc::Global;
-use utilities::owner_cause;
+use utilities::owner_refusal;
 
 /// The bytes of a file that is copied from.
 const MOST_FILE_BYTES: usize = 4_294_967_295;
 
 /// The file, where it is there and not too long.
 fn short_file(file: Option<Vec<u8>>) -> Result<Vec<u8>, CopyFault>
-    ensures told { Copies (λ bytes. short_file (option_map vec_items file) ≡ Ok bytes.items) (λ refusal. short_file (option_map vec_items file) ≡ Err refusal) result }
+    ensures known { Copies (λ bytes. short_file (option_map vec_items file) ≡ Ok bytes.items) (λ refusal. short_file (option_map vec_items file) ≡ Err refusal) result }
     ensures short { IfOk result (λ bytes. length bytes.items ≤ most_file_bytes) }
     ensures cause { HasShelfCause 0 0 result }
 {
@@ -47,7 +47,7 @@ fn short_file(file: Option<Vec<u8>>) -> Result<Vec<u8>, CopyFault>
 
 /// The bytes of the file that a constant names.
 fn fetch_file<H: Shelf>(alloc: Global, shelf: &mut H, constant: &[u8]) -> Result<Vec<u8>, CopyFault>
-    ensures told { (files : Files) → H.files shelf.old ≡ Some files
+    ensures known { (files : Files) → H.files shelf.old ≡ Some files
         → Copies (λ bytes. short_file (fetched files (file_of_constant constant.now)) ≡ Ok bytes.items) (λ refusal. short_file (fetched files (file_of_constant constant.now)) ≡ Err refusal) result }
     ensures short { IfOk result (λ bytes. length bytes.items ≤ most_file_bytes) }
     ensures files { H.files shelf.new ≡ H.files shelf.old }
@@ -70,7 +70,7 @@ fn rows_in_file(
 ) -> Result<Vec<Row>, CopyFault>
     requires readable { IsTrue (are_readable kinds.now columns.now) }
     requires short { length bytes.now ≤ most_file_bytes }
-    ensures told { Copies (λ rows. or_bad_row (rows_in_file kinds.now columns.now bytes.now) ≡ Ok rows.items) (λ refusal. or_bad_row (rows_in_file kinds.now columns.now bytes.now) ≡ Err refusal) result }
+    ensures known { Copies (λ rows. or_bad_row (rows_in_file kinds.now columns.now bytes.now) ≡ Ok rows.items) (λ refusal. or_bad_row (rows_in_file kinds.now columns.now bytes.now) ≡ Err refusal) result }
     ensures cause { IsUncaused result }
 {
     let mut rows = Vec::new(alloc);
@@ -97,7 +97,7 @@ fn rows_for<B: Base>(
 ) -> Result<Vec<Row>, CopyFault>
     requires fits { (db : Db) → B.database base.old ≡ Some db → are_readable (kinds_at db rel.now) columns.now ≡ true }
     requires short { length bytes.now ≤ most_file_bytes }
-    ensures told { (db : Db) → B.database base.old ≡ Some db
+    ensures known { (db : Db) → B.database base.old ≡ Some db
         → Copies (λ rows. or_bad_row (rows_in_file (kinds_at db rel.now) columns.now bytes.now) ≡ Ok rows.items) (λ refusal. or_bad_row (rows_in_file (kinds_at db rel.now) columns.now bytes.now) ≡ Err refusal) result }
     ensures kept { B.database base.new ≡ B.database base.old }
     ensures stays { (s : Db) → B.schema base.old ≡ Some s → B.schema base.new ≡ Some s }
@@ -122,7 +122,7 @@ fn file_appended<B: Base>(
 ) -> Result<DbChange, CopyFault>
     requires fits { (db : Db) → B.database base.old ≡ Some db → are_readable (kinds_at db rel.now) columns.now ≡ true }
     requires short { length bytes.items ≤ most_file_bytes }
-    ensures told { (db : Db) → B.database base.old ≡ Some db
+    ensures known { (db : Db) → B.database base.old ≡ Some db
         → Copies (λ change. rows_from_bytes db rel.now columns.now bytes.items ≡ Ok change) (λ refusal. rows_from_bytes db rel.now columns.now bytes.items ≡ Err refusal) result }
     ensures kept { B.database base.new ≡ B.database base.old }
     ensures stays { (s : Db) → B.schema base.old ≡ Some s → B.schema base.new ≡ Some s }
@@ -148,7 +148,7 @@ fn rows_from<B: Base, H: Shelf>(
     constant: &[u8],
 ) -> Result<DbChange, CopyFault>
     requires fits { (db : Db) → B.database base.old ≡ Some db → WouldBeReadable db user.now rel.now columns.now }
-    ensures told { (db : Db) (files : Files) → B.database base.old ≡ Some db → H.files shelf.old ≡ Some files
+    ensures known { (db : Db) (files : Files) → B.database base.old ≡ Some db → H.files shelf.old ≡ Some files
         → Copies (λ change. copied_from db files user.now rel.now columns.now constant.now ≡ Ok change)
         (λ refusal. copied_from db files user.now rel.now columns.now constant.now ≡ Err refusal) result }
     ensures comes { (db : Db) → B.database base.old ≡ Some db → IfOk result (ComesOf db user.now rel.now columns.now constant.now) }
@@ -158,7 +158,7 @@ fn rows_from<B: Base, H: Shelf>(
     ensures files { H.files shelf.new ≡ H.files shelf.old }
     ensures cause { HasCopyCause (B.database base.old) (B.faults base.old) (B.faults base.new) (H.faults shelf.old) (H.faults shelf.new) result }
 {
-    match owner_cause(alloc, base, user, rel) {
+    match owner_refusal(alloc, base, user, rel) {
         Ok(None) => match fetch_file(alloc, shelf, constant) {
             Ok(bytes) => file_appended(alloc, base, rel, columns, bytes),
             Err(fault) => Err(fault),
@@ -182,7 +182,7 @@ pub fn copy_from<B: Base, H: Shelf>(
 ) -> Result<DbChange, CopyFault>
     requires copies { IsCopy u.now true }
     requires fits { (db : Db) → B.database base.old ≡ Some db → is_fit db user.now (checked.Utility u.now) ≡ true }
-    ensures told { (db : Db) (files : Files) → B.database base.old ≡ Some db → H.files shelf.old ≡ Some files → (c : IsCopy u.now true)
+    ensures known { (db : Db) (files : Files) → B.database base.old ≡ Some db → H.files shelf.old ≡ Some files → (c : IsCopy u.now true)
         → Copies (λ change. copied_from db files user.now c.rel c.columns c.constant ≡ Ok change)
         (λ refusal. copied_from db files user.now c.rel c.columns c.constant ≡ Err refusal) result }
     ensures lawful { (db : Db) → B.database base.old ≡ Some db → IfOk result (λ change. IsLawful db change) }

@@ -4,8 +4,8 @@ ghost use Rattle.std.specs.Prelude.{◌≡◌, [], true, false, IsTrue, IfOk, If
 ghost use Rattle.calculus.specs.Database.{Db};
 ghost use Rattle.calculus.specs.Stored.{rows_at};
 ghost use Rattle.calculus.specs.declared.request.Checked.TheVariants as checked;
-ghost use Rattle.am_traits.specs.Causes.{HasCause};
-ghost use Rattle.am_traits.specs.declared.fault.BaseFault.TheVariants.{Damaged};
+ghost use Rattle.base_trait.specs.Causes.{HasCause};
+ghost use Rattle.base_trait.specs.declared.fault.BaseFault.TheVariants.{Damaged};
 ghost use Rattle.fault_io.specs.Files.{Files, stored};
 ghost use Rattle.quel_meaning.specs.Copying.{copied_into, file_of_constant, file_of_rows};
 ghost use Rattle.quel_meaning.specs.Fit.{is_fit};
@@ -19,12 +19,12 @@ use crate::CopyFault;
 use crate::file_name::file_of_constant;
 use crate::forms::have_forms;
 use crate::rows_written::push_rows;
-use am_traits::{Base, BaseFault};
+use base_trait::{Base, BaseFault};
 use calculus::{CopyCol, Name, RelKey, Utility};
 use fault_io::Shelf;
 use ovqp::rows_of;
 use std::alloc::Global;
-use utilities::owner_cause;
+use utilities::owner_refusal;
 
 /// The number of a row. No database has so many rows that one's number doesn't fit.
 fn row_number(row: Option<usize>) -> Result<Option<u32>, BaseFault>
@@ -51,7 +51,7 @@ fn put_rows<B: Base>(
 ) -> Result<Option<u32>, BaseFault>
     requires forms { IsTrue (have_forms columns.now) }
     requires empty { out.old.items ≡ [] }
-    ensures told { (db : Db) → B.database base.old ≡ Some db → IfOk result (λ bad. file_of_rows columns.now (rows_at db rel.now) ≡ up_to_bad out.new.items bad) }
+    ensures known { (db : Db) → B.database base.old ≡ Some db → IfOk result (λ bad. file_of_rows columns.now (rows_at db rel.now) ≡ up_to_bad out.new.items bad) }
     ensures kept { B.database base.new ≡ B.database base.old }
     ensures stays { (s : Db) → B.schema base.old ≡ Some s → B.schema base.new ≡ Some s }
     ensures asked { (b : B) → B.asked b base.old → B.asked b base.new }
@@ -78,14 +78,14 @@ fn put_file<B: Base>(
 ) -> Result<(), CopyFault>
     requires forms { IsTrue (have_forms columns.now) }
     requires empty { out.old.items ≡ [] }
-    ensures told { (db : Db) → B.database base.old ≡ Some db
+    ensures known { (db : Db) → B.database base.old ≡ Some db
         → Copies (λ done. copied_into db user.now rel.now columns.now ≡ Ok out.new.items) (λ refusal. copied_into db user.now rel.now columns.now ≡ Err refusal) result }
     ensures kept { B.database base.new ≡ B.database base.old }
     ensures stays { (s : Db) → B.schema base.old ≡ Some s → B.schema base.new ≡ Some s }
     ensures asked { (b : B) → B.asked b base.old → B.asked b base.new }
     ensures cause { HasBaseCause (B.database base.old) (B.faults base.old) (B.faults base.new) result }
 {
-    match owner_cause(alloc, base, user, rel) {
+    match owner_refusal(alloc, base, user, rel) {
         Ok(None) => match put_rows(alloc, base, rel, columns, out) {
             Ok(None) => Ok(()),
             Ok(Some(row)) => Err(CopyFault::BadRow { row }),
@@ -103,7 +103,7 @@ fn store_file<H: Shelf>(
     constant: &[u8],
     bytes: &[u8],
 ) -> Result<(), CopyFault>
-    ensures told { (files : Files) → H.files shelf.old ≡ Some files → IsStored (Ok bytes.now) (file_of_constant constant.now) files (H.files shelf.new) result }
+    ensures known { (files : Files) → H.files shelf.old ≡ Some files → IsStored (Ok bytes.now) (file_of_constant constant.now) files (H.files shelf.new) result }
     ensures cause { HasShelfCause (H.faults shelf.old) (H.faults shelf.new) result }
 {
     let name = file_of_constant(alloc, constant)?;
@@ -125,7 +125,7 @@ fn store_rows<B: Base, H: Shelf>(
     constant: &[u8],
 ) -> Result<(), CopyFault>
     requires fits { (db : Db) → B.database base.old ≡ Some db → have_forms columns.now ≡ true }
-    ensures told { (db : Db) (files : Files) → B.database base.old ≡ Some db → H.files shelf.old ≡ Some files
+    ensures known { (db : Db) (files : Files) → B.database base.old ≡ Some db → H.files shelf.old ≡ Some files
         → IsStored (copied_into db user.now rel.now columns.now) (file_of_constant constant.now) files (H.files shelf.new) result }
     ensures kept { B.database base.new ≡ B.database base.old }
     ensures stays { (s : Db) → B.schema base.old ≡ Some s → B.schema base.new ≡ Some s }
@@ -154,7 +154,7 @@ pub fn copy_into<B: Base, H: Shelf>(
 ) -> Result<(), CopyFault>
     requires copies { IsCopy u.now false }
     requires fits { (db : Db) → B.database base.old ≡ Some db → is_fit db user.now (checked.Utility u.now) ≡ true }
-    ensures told { (db : Db) (files : Files) → B.database base.old ≡ Some db → H.files shelf.old ≡ Some files → (c : IsCopy u.now false)
+    ensures known { (db : Db) (files : Files) → B.database base.old ≡ Some db → H.files shelf.old ≡ Some files → (c : IsCopy u.now false)
         → IsStored (copied_into db user.now c.rel c.columns) (file_of_constant c.constant) files (H.files shelf.new) result }
     ensures kept { B.database base.new ≡ B.database base.old }
     ensures stays { (s : Db) → B.schema base.old ≡ Some s → B.schema base.new ≡ Some s }

@@ -8,13 +8,13 @@ mod file_name;
 mod forms;
 mod from_file;
 mod into_file;
-mod judging;
 mod numbers;
 mod pieces;
 mod printing;
 mod records;
 mod rows_read;
 mod rows_written;
+mod rule_keeping;
 
 pub use fault::CopyFault;
 pub use from_file::copy_from;

@@ -1,58 +1,15 @@
 //! A record at the front of bytes.
 
-ghost use Rattle.std.specs.Prelude.{◌≡◌, [], IsFalse, IsTrue, IfOk, OnOk, map, not, length, option_map, slice_get, slice_set};
+ghost use Rattle.std.specs.Prelude.{◌≡◌, IsFalse, IsTrue, IfOk, not, length, option_map, slice_get};
 ghost use Rattle.calculus.specs.Lists.{is_any};
-ghost use Rattle.calculus.specs.Pairs.{blank};
-ghost use Rattle.calculus.specs.declared.value.Value.TheVariants.{Text as TextValue};
-ghost use Rattle.quel_meaning.specs.Columns.{column_value, is_copy_form};
+ghost use Rattle.quel_meaning.specs.Columns.{is_copy_form};
 ghost use Rattle.quel_meaning.specs.Copying.{record_row, record_values};
 ghost use Rattle.copy_util.specs.Reading.{are_readable, column_put, is_wide, record_put};
 
 use crate::columns::piece_value;
 use crate::pieces::piece_of;
-use calculus::{CopyCol, Domain, Kind, OutOfMemory, Row, Text, Value};
+use calculus::{CopyCol, Kind, OutOfMemory, Row, Value, blank_values, put_at};
 use std::alloc::Global;
-
-/// The empty text.
-fn empty_text(alloc: Global) -> Result<Value, OutOfMemory>
-    ensures { IfOk result (λ value. value ≡ TextValue []) }
-{
-    match Text::of(alloc, &[])? {
-        Some(text) => Ok(Value::Text(text)),
-        None => Ok(Value::Int(0)),
-    }
-}
-
-/// What an attribute of the kind holds that no column is for: 0, or the empty text.
-fn blank(alloc: Global, kind: Kind) -> Result<Value, OutOfMemory>
-    ensures { IfOk result (λ value. value ≡ blank kind) }
-{
-    match kind {
-        Kind::Of(Domain::C(_)) => empty_text(alloc),
-        _ => Ok(Value::Int(0)),
-    }
-}
-
-/// The values of the row that no column is for.
-fn blank_values(alloc: Global, kinds: &[Kind]) -> Result<Vec<Value>, OutOfMemory>
-    ensures { IfOk result (λ values. values.items ≡ map blank kinds.now) }
-{
-    let mut values = Vec::new(alloc);
-    for kind in kinds {
-        values.push(blank(alloc, *kind)?)?;
-    }
-    Ok(values)
-}
-
-/// Puts the value at the place, where there is one.
-fn put_at(place: u8, value: Value, row: &mut Vec<Value>)
-    ensures { row.new.items ≡ slice_set row.old.items place value }
-{
-    let place = place as usize;
-    if place < row.len() {
-        row[place] = value;
-    }
-}
 
 /// The kind at a place.
 fn kind_at(kinds: &[Kind], place: u8) -> Option<Kind>

@@ -1,4 +1,4 @@
--- What is told of the variables of a query and of an update that are fit.
+-- What is known of the variables of a query and of an update that are fit.
 use Rattle.std.proofs.Common.{◌≡◌, refl, sym, ap, ◌∙◌, subst, ℕ, ◌≤◌, Bool, true, false, cond, ◌&&◌, ◌||◌, nat_le, List, [], ◌∷◌, map, length, Option, Some, None, is_some, option_map, arith}
 use Rattle.std.proofs.lemmas.Bool.Decides.{nat_tests}
 use Rattle.std.specs.Prelude.{slice_get, sum_by, ◌==◌}
@@ -26,14 +26,14 @@ use Rattle.quel_meaning.specs.FitQueries.{Allowed, kept_or_viewed, sources_fit, 
 use Rattle.quel_meaning.specs.Fit.{update_kinds_fit, places_fit, checks_fit, relation_fits, is_this_key, update_fits, suits, fits, is_fit_with_views}
 use Rattle.quel_meaning.specs.KindsInQueries.{query_fits, assignments_fit}
 use Rattle.quel_meaning.specs.SpelledTree.{tree_is_spelled}
-use Rattle.view_text.specs.declared.text.Text.{Text}
-use Rattle.view_text.specs.Texts.{used_text, texts_vars}
-use Rattle.view_text.specs.TextOf.{text_of}
-use Rattle.view_text.specs.PutIn.{changed_text}
-use Rattle.view_expand.proofs.Few.{few_told}
+use Rattle.view_text.specs.declared.expansion.Expansion.{Expansion}
+use Rattle.view_text.specs.Expansions.{used_expansion, expansions_vars}
+use Rattle.view_text.specs.ExpansionOf.{expansion_of}
+use Rattle.view_text.specs.Expanded.{changed_expansion}
+use Rattle.view_expand.proofs.Few.{few_known}
 use Rattle.calculus_laws.proofs.Enough.{same_key-exact}
-use Rattle.cut_rules.specs.Placed.{read_text, is_small, changed_by, text_in, is_small_in}
-use Rattle.cut_rules.proofs.Listing.{both_true, stands_at, each_small, texts_small, all_so}
+use Rattle.cut_rules.specs.Placed.{read_expansion, is_small, changed_by, expansion_in, is_small_in}
+use Rattle.cut_rules.proofs.Listing.{both_true, stands_at, each_small, expansions_small, all_so}
 
 -- ---- a query that may be read
 
@@ -51,7 +51,7 @@ few_listed may db q h =
     let few : lists_few_vars q ≡ true = (both_true (lists_few_vars q) (has_few_targets q) (both_true (slots_count_up q) _ (both_true (sources_fit may db q) _ (both_true (list_all may.variable (vars_of q)) _ h).1).1).1).0 in
     grind (arith, nat_tests, few)
 
--- its variables are few once the views in them are put in
+-- its variables are few once the views in them are expanded
 abbrev counted : Db → ℕ × RelKey → ℕ
 counted db p = (measure_of db p.1).variables
 
@@ -73,15 +73,15 @@ small_there db q place key h used = by (is_any (used_in_query place q)) used h
     by true e h = grind (arith, nat_tests, h)
     by false e h = cc e
 
-used_small : (db : Db) (who : Who) (key : RelKey) (attrs : List ℕ) → length (used_text (text_of db who) key attrs).vars ≤ cond (is_any attrs) (measure_of db key).variables 0
-unfolding text_of measure_of
+used_small : (db : Db) (who : Who) (key : RelKey) (attrs : List ℕ) → length (used_expansion (expansion_of db who) key attrs).vars ≤ cond (is_any attrs) (measure_of db key).variables 0
+unfolding expansion_of measure_of
 used_small db who key [] = let none : 0 ≤ 0 = omega arith in none
-used_small db who key (a ∷ attrs) = few_told db who greatest_level key (a ∷ attrs)
+used_small db who key (a ∷ attrs) = few_known db who greatest_level key (a ∷ attrs)
 
-pub small_texts : (db : Db) (who : Who) (q : Query) → expanded_variables db q ≤ 50 → length (texts_vars (map (read_text db who q) (enumerate_from 0 (vars_of q)))) ≤ 256
-small_texts db who q h =
+pub small_expansions : (db : Db) (who : Who) (q : Query) → expanded_variables db q ≤ 50 → length (expansions_vars (map (read_expansion db who q) (enumerate_from 0 (vars_of q)))) ≤ 256
+small_expansions db who q h =
     let few = used_count db q h in
-    let less = texts_small (λ p. is_any (used_in_query p.0 q)) (counted db) (read_text db who q) (enumerate_from 0 (vars_of q)) (λ p inside. used_small db who p.1 (used_in_query p.0 q)) in
+    let less = expansions_small (λ p. is_any (used_in_query p.0 q)) (counted db) (read_expansion db who q) (enumerate_from 0 (vars_of q)) (λ p inside. used_small db who p.1 (used_in_query p.0 q)) in
     omega (arith, few, less)
 
 -- ---- an update
@@ -172,7 +172,7 @@ target_there may db u h v right c = by u.op (counts may db u h).relation c
     by op.Replace r c = let same : u.old ≡ v = ap place_of c in replaced same r
     by op.Delete r c = let same : u.old ≡ v = ap place_of c in replaced same r
 
--- ---- the texts of an update's variables
+-- ---- the expansions of an update's variables
 
 abbrev ranged_by : Option Relation → Option View → Option Relation → Option Range
 ranged_by r v c = elim r [
@@ -199,72 +199,72 @@ or_more true c n m h = h
 or_more false true n m h = omega (arith, h)
 or_more false false n m h = h
 
-small_text : (may : Allowed) (db : Db) (who : Who) (u : Update) → update_fits may db u ≡ true → (v : ℕ) (key : RelKey) → slice_get (vars_of u.query) v ≡ Some key
-    → length (text_in db who u (v, key)).vars ≤ cond (is_any (used_in_query v u.query) || is_changed u v) (measure_of db key).variables 0
-small_text may db who u h v key there = by (changed u) refl
+small_expansion : (may : Allowed) (db : Db) (who : Who) (u : Update) → update_fits may db u ≡ true → (v : ℕ) (key : RelKey) → slice_get (vars_of u.query) v ≡ Some key
+    → length (expansion_in db who u (v, key)).vars ≤ cond (is_any (used_in_query v u.query) || is_changed u v) (measure_of db key).variables 0
+small_expansion may db who u h v key there = by (changed u) refl
   where
     used : List ℕ
     used = used_in_query v u.query
 
     at : (n : ℕ) (right : Right) → changed u ≡ Some (n, right) → (b : Bool) → (n == v) ≡ b
-        → length (elim b as (λ x. Text) [ true ↦ changed_text db who right u.places used key | false ↦ used_text (text_of db who) key used ]).vars ≤ cond (is_any used || b) (measure_of db key).variables 0
+        → length (elim b as (λ x. Expansion) [ true ↦ changed_expansion db who right u.places used key | false ↦ used_expansion (expansion_of db who) key used ]).vars ≤ cond (is_any used || b) (measure_of db key).variables 0
     at n right e true same =
         let is : n ≡ v = grind (arith, nat_tests, same) in
         let target = target_there may db u h v right (e ∙ ap (λ n. Some (n, right)) is) in
         let key_is : key ≡ u.rel = cc (sym there ∙ target.stands) in
         own_small (is_any used) true 1 (measure_of db key).variables refl refl (ap (λ key. (measure_of db key).variables) key_is ∙ kept_count db u.rel target.there)
-    at n right e false same = or_more (is_any used) false (length (used_text (text_of db who) key used).vars) (measure_of db key).variables (used_small db who key used)
+    at n right e false same = or_more (is_any used) false (length (used_expansion (expansion_of db who) key used).vars) (measure_of db key).variables (used_small db who key used)
 
     by : (o : Option (ℕ × Right)) → changed u ≡ o
-        → length (elim o as (λ x. Text) [
-          | None ↦ used_text (text_of db who) key used
-          | Some c ↦ elim (c.0 == v) as (λ x. Text) [ true ↦ changed_text db who c.1 u.places used key | false ↦ used_text (text_of db who) key used ]
+        → length (elim o as (λ x. Expansion) [
+          | None ↦ used_expansion (expansion_of db who) key used
+          | Some c ↦ elim (c.0 == v) as (λ x. Expansion) [ true ↦ changed_expansion db who c.1 u.places used key | false ↦ used_expansion (expansion_of db who) key used ]
         ]).vars
         ≤ cond (is_any used || elim o as (λ x. Bool) [ None ↦ false | Some c ↦ c.0 == v ]) (measure_of db key).variables 0
-    by None e = or_more (is_any used) false (length (used_text (text_of db who) key used).vars) (measure_of db key).variables (used_small db who key used)
+    by None e = or_more (is_any used) false (length (used_expansion (expansion_of db who) key used).vars) (measure_of db key).variables (used_small db who key used)
     by (Some c) e = at c.0 c.1 e (c.0 == v) refl
 
-pub small_texts_in : (may : Allowed) (db : Db) (who : Who) (u : Update) → update_fits may db u ≡ true → length (texts_vars (map (text_in db who u) (enumerate_from 0 (vars_of u.query)))) ≤ 255
-small_texts_in may db who u h =
+pub small_expansions_in : (may : Allowed) (db : Db) (who : Who) (u : Update) → update_fits may db u ≡ true → length (expansions_vars (map (expansion_in db who u) (enumerate_from 0 (vars_of u.query)))) ≤ 255
+small_expansions_in may db who u h =
     let few = update_count db u (counts may db u h).few in
-    let less = texts_small (λ p. is_any (used_in_query p.0 u.query) || is_changed u p.0) (counted db) (text_in db who u) (enumerate_from 0 (vars_of u.query))
-    (λ p inside. small_text may db who u h p.0 p.1 (stands_at (vars_of u.query) p.0 p.1 inside)) in
+    let less = expansions_small (λ p. is_any (used_in_query p.0 u.query) || is_changed u p.0) (counted db) (expansion_in db who u) (enumerate_from 0 (vars_of u.query))
+    (λ p inside. small_expansion may db who u h p.0 p.1 (stands_at (vars_of u.query) p.0 p.1 inside)) in
     omega (arith, few, less)
 
--- ---- the text of an update's variable
+-- ---- the expansion of an update's variable
 
-pub changed_text_is : (db : Db) (who : Who) (u : Update) (v : ℕ) (key : RelKey) (right : Right) → Some right ≡ changed_by u v → changed_text db who right u.places (used_in_query v u.query) key ≡ text_in db who u (v, key)
-changed_text_is db who u v key right h = by (changed u) h
+pub changed_expansion_is : (db : Db) (who : Who) (u : Update) (v : ℕ) (key : RelKey) (right : Right) → Some right ≡ changed_by u v → changed_expansion db who right u.places (used_in_query v u.query) key ≡ expansion_in db who u (v, key)
+changed_expansion_is db who u v key right h = by (changed u) h
   where
     at : (r : Right) (b : Bool) → Some right ≡ elim b as (λ x. Option Right) [ true ↦ Some r | false ↦ None ]
-        → changed_text db who right u.places (used_in_query v u.query) key
-        ≡ elim b as (λ x. Text) [ true ↦ changed_text db who r u.places (used_in_query v u.query) key | false ↦ used_text (text_of db who) key (used_in_query v u.query) ]
-    at r true h = let same : right ≡ r = cc h in ap (λ r. changed_text db who r u.places (used_in_query v u.query) key) same
+        → changed_expansion db who right u.places (used_in_query v u.query) key
+        ≡ elim b as (λ x. Expansion) [ true ↦ changed_expansion db who r u.places (used_in_query v u.query) key | false ↦ used_expansion (expansion_of db who) key (used_in_query v u.query) ]
+    at r true h = let same : right ≡ r = cc h in ap (λ r. changed_expansion db who r u.places (used_in_query v u.query) key) same
     at r false h = cc h
 
     by : (o : Option (ℕ × Right)) → Some right ≡ elim o as (λ x. Option Right) [ None ↦ None | Some c ↦ elim (c.0 == v) as (λ x. Option Right) [ true ↦ Some c.1 | false ↦ None ] ]
-        → changed_text db who right u.places (used_in_query v u.query) key
-        ≡ elim o as (λ x. Text) [
-          | None ↦ used_text (text_of db who) key (used_in_query v u.query)
-          | Some c ↦ elim (c.0 == v) as (λ x. Text) [ true ↦ changed_text db who c.1 u.places (used_in_query v u.query) key | false ↦ used_text (text_of db who) key (used_in_query v u.query) ]
+        → changed_expansion db who right u.places (used_in_query v u.query) key
+        ≡ elim o as (λ x. Expansion) [
+          | None ↦ used_expansion (expansion_of db who) key (used_in_query v u.query)
+          | Some c ↦ elim (c.0 == v) as (λ x. Expansion) [ true ↦ changed_expansion db who c.1 u.places (used_in_query v u.query) key | false ↦ used_expansion (expansion_of db who) key (used_in_query v u.query) ]
         ]
     by None h = cc h
     by (Some c) h = at c.1 (c.0 == v) h
 
-pub read_text_is : (db : Db) (who : Who) (u : Update) (v : ℕ) (key : RelKey) → None ≡ changed_by u v → read_text db who u.query (v, key) ≡ text_in db who u (v, key)
-read_text_is db who u v key h = by (changed u) h
+pub read_expansion_is : (db : Db) (who : Who) (u : Update) (v : ℕ) (key : RelKey) → None ≡ changed_by u v → read_expansion db who u.query (v, key) ≡ expansion_in db who u (v, key)
+read_expansion_is db who u v key h = by (changed u) h
   where
     at : (r : Right) (b : Bool) → None ≡ elim b as (λ x. Option Right) [ true ↦ Some r | false ↦ None ]
-        → used_text (text_of db who) key (used_in_query v u.query)
-        ≡ elim b as (λ x. Text) [ true ↦ changed_text db who r u.places (used_in_query v u.query) key | false ↦ used_text (text_of db who) key (used_in_query v u.query) ]
+        → used_expansion (expansion_of db who) key (used_in_query v u.query)
+        ≡ elim b as (λ x. Expansion) [ true ↦ changed_expansion db who r u.places (used_in_query v u.query) key | false ↦ used_expansion (expansion_of db who) key (used_in_query v u.query) ]
     at r true h = cc h
     at r false h = refl
 
     by : (o : Option (ℕ × Right)) → None ≡ elim o as (λ x. Option Right) [ None ↦ None | Some c ↦ elim (c.0 == v) as (λ x. Option Right) [ true ↦ Some c.1 | false ↦ None ] ]
-        → used_text (text_of db who) key (used_in_query v u.query)
-        ≡ elim o as (λ x. Text) [
-          | None ↦ used_text (text_of db who) key (used_in_query v u.query)
-          | Some c ↦ elim (c.0 == v) as (λ x. Text) [ true ↦ changed_text db who c.1 u.places (used_in_query v u.query) key | false ↦ used_text (text_of db who) key (used_in_query v u.query) ]
+        → used_expansion (expansion_of db who) key (used_in_query v u.query)
+        ≡ elim o as (λ x. Expansion) [
+          | None ↦ used_expansion (expansion_of db who) key (used_in_query v u.query)
+          | Some c ↦ elim (c.0 == v) as (λ x. Expansion) [ true ↦ changed_expansion db who c.1 u.places (used_in_query v u.query) key | false ↦ used_expansion (expansion_of db who) key (used_in_query v u.query) ]
         ]
     by None h = refl
     by (Some c) h = at c.1 (c.0 == v) h

@@ -4,7 +4,7 @@ use Rattle.std.specs.List.{list_all}
 use Rattle.std.proofs.lemmas.Simd.{map-map}
 use Rattle.std.proofs.lemmas.List.Folds.{list_all-map, list_all_at}
 use Rattle.calculus.specs.Database.{Db}
-use Rattle.view_expand.specs.declared.fault.TextFault.{TextFault}
+use Rattle.view_expand.specs.declared.fault.ExpansionFault.{ExpansionFault}
 use Rattle.view_expand.specs.Causes.{HasCause}
 use Rattle.view_expand.proofs.Causing.{caused_behind}
 
@@ -25,7 +25,7 @@ pub map_under : {X Y Z : Type 0} (k : Y → Z) (f : X → Y) (xs : List X) (ys :
 map_under k f xs ys h = sym (map-map k f xs) ∙ ap (map k) h
 
 -- an error of another answer, behind what leaves the database, and the count of faults, as they are
-pub error_behind : {S T : Type 0} (refused other : Db → Type 0) (told mid_told : Option Db) (before mid now : ℕ) (fault : TextFault) → mid_told ≡ told → mid ≡ before
-    → ((db : Db) → told ≡ Some db → refused db → other db) → HasCause {T = S} refused mid_told mid now (Err fault) → HasCause {T = T} other told before now (Err fault)
-error_behind {S} {T} refused other told mid_told before mid now fault e l f c =
-    caused_behind {T = T} refused other told mid_told before mid now (Err fault) e l f (record { later = c.later; caused = c.caused })
+pub error_behind : {S T : Type 0} (refused other : Db → Type 0) (known mid_known : Option Db) (before mid now : ℕ) (fault : ExpansionFault) → mid_known ≡ known → mid ≡ before
+    → ((db : Db) → known ≡ Some db → refused db → other db) → HasCause {T = S} refused mid_known mid now (Err fault) → HasCause {T = T} other known before now (Err fault)
+error_behind {S} {T} refused other known mid_known before mid now fault e l f c =
+    caused_behind {T = T} refused other known mid_known before mid now (Err fault) e l f (record { later = c.later; caused = c.caused })

@@ -7,5 +7,5 @@ pub mod Places
 pub mod Fitting
 pub mod Refusing
 pub mod Trees
-pub mod Freely
+pub mod Unrestrictedly
 pub mod Answered

@@ -1,4 +1,4 @@
--- Lists of variables, by their places: what is told of those that pass a test, and of all of them.
+-- Lists of variables, by their places: what is known of those that pass a test, and of all of them.
 use Rattle.std.proofs.Common.{◌≡◌, inl, inr, refl, sym, ap, ◌∙◌, subst, ℕ, zero, suc, ◌+◌, ◌≤◌, Bool, true, false, cond, ◌&&◌, nat_le, List, [], ◌∷◌, ◌++◌, map, filter, length, length-append, append_assoc, Some, Contains, arith}
 use Rattle.std.proofs.lemmas.Bool.Decides.{nat_tests}
 use Rattle.std.proofs.lemmas.List.Sums.{sum_by-cons}
@@ -8,8 +8,8 @@ use Rattle.calculus.specs.declared.query.RelKey.{RelKey}
 use Rattle.calculus_laws.proofs.Members.{In}
 use Rattle.calculus_laws.proofs.Asked.{In-Contains}
 use Rattle.std.proofs.lemmas.List.Elements.{Contains-append_right}
-use Rattle.view_text.specs.declared.text.Text.{Text}
-use Rattle.view_text.specs.Texts.{texts_vars}
+use Rattle.view_text.specs.declared.expansion.Expansion.{Expansion}
+use Rattle.view_text.specs.Expansions.{expansions_vars}
 
 pub both_true : (b c : Bool) → (b && c) ≡ true → (b ≡ true) × (c ≡ true)
 both_true true c h = (refl, h)
@@ -96,23 +96,23 @@ each_small test f most (x ∷ xs) h =
     one false n h = refl
 
 -- texts have no more variables together than the amounts of those that pass a test, where each has no more than its own
-pub texts_small : {X : Type 0} (test : X → Bool) (f : X → ℕ) (text : X → Text) (xs : List X) → ((x : X) → In x xs → length (text x).vars ≤ cond (test x) (f x) 0)
-    → length (texts_vars (map text xs)) ≤ sum_by f (filter test xs)
-texts_small test f text [] h = let none : 0 ≤ 0 = omega arith in none
-texts_small test f text (x ∷ xs) h =
+pub expansions_small : {X : Type 0} (test : X → Bool) (f : X → ℕ) (expansion : X → Expansion) (xs : List X) → ((x : X) → In x xs → length (expansion x).vars ≤ cond (test x) (f x) 0)
+    → length (expansions_vars (map expansion xs)) ≤ sum_by f (filter test xs)
+expansions_small test f expansion [] h = let none : 0 ≤ 0 = omega arith in none
+expansions_small test f expansion (x ∷ xs) h =
     let e = kept_sum_step (test x) f x (filter test xs) in
-    let long = length-append (text x).vars (texts_vars (map text xs)) in
+    let long = length-append (expansion x).vars (expansions_vars (map expansion xs)) in
     let first = h x (inl refl) in
-    let later = texts_small test f text xs (λ y inside. h y (inr inside)) in
+    let later = expansions_small test f expansion xs (λ y inside. h y (inr inside)) in
     omega (arith, e, long, first, later)
 
 -- ---- one more
 
-pub next_told : (text : ℕ × RelKey → Text) (n : ℕ) (key : RelKey) (rest keys : List RelKey) (made all now : List Text) (t : Text) → rest ≡ key ∷ keys → t ≡ text (n, key) → now ≡ made ++ t ∷ []
-    → made ++ map text (enumerate_from n rest) ≡ all → now ++ map text (enumerate_from (n + 1) keys) ≡ all
-next_told text n key rest keys made all now t r e m h =
-    ap (λ ts. ts ++ map text (enumerate_from (n + 1) keys)) m ∙ append_assoc made (t ∷ []) (map text (enumerate_from (n + 1) keys))
-    ∙ ap (λ t. made ++ t ∷ map text (enumerate_from (n + 1) keys)) e ∙ sym (ap (λ ks. made ++ map text (enumerate_from n ks)) r) ∙ h
+pub next_known : (expansion : ℕ × RelKey → Expansion) (n : ℕ) (key : RelKey) (rest keys : List RelKey) (made all now : List Expansion) (t : Expansion) → rest ≡ key ∷ keys → t ≡ expansion (n, key) → now ≡ made ++ t ∷ []
+    → made ++ map expansion (enumerate_from n rest) ≡ all → now ++ map expansion (enumerate_from (n + 1) keys) ≡ all
+next_known expansion n key rest keys made all now t r e m h =
+    ap (λ ts. ts ++ map expansion (enumerate_from (n + 1) keys)) m ∙ append_assoc made (t ∷ []) (map expansion (enumerate_from (n + 1) keys))
+    ∙ ap (λ t. made ++ t ∷ map expansion (enumerate_from (n + 1) keys)) e ∙ sym (ap (λ ks. made ++ map expansion (enumerate_from n ks)) r) ∙ h
 
 pub here_all : (may : ℕ × RelKey → Bool) (n : ℕ) (key : RelKey) (rest keys : List RelKey) → rest ≡ key ∷ keys → list_all may (enumerate_from n rest) ≡ true → may (n, key) ≡ true
 here_all may n key rest keys r h = (both_true (may (n, key)) _ (sym (ap (λ ks. list_all may (enumerate_from n ks)) r) ∙ h)).0

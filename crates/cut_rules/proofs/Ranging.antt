@@ -10,7 +10,7 @@ use Rattle.calculus.specs.Tree.{rows_of_query}
 use Rattle.calculus.specs.Who.{Who}
 use Rattle.calculus.specs.Database.{Db, Relation, View, relation_at, view_at}
 use Rattle.calculus.specs.Catalogue.{catalogue_at}
-use Rattle.calculus.specs.IsDatabase.{IsDatabase, query_stands}
+use Rattle.calculus.specs.IsDatabase.{IsDatabase, valid_query}
 use Rattle.calculus.specs.Stored.{Range, Kept, Viewed, range_at}
 use Rattle.calculus.specs.Lists.{is_any}
 use Rattle.calculus.specs.Rights.{Retrieve, permitted}
@@ -20,10 +20,10 @@ use Rattle.calculus.specs.Used.{used_in_query, used_vars}
 use Rattle.calculus.specs.Sizes.{measure_of, measure_within, query_measure}
 use Rattle.calculus.proofs.Forms.{rows_is}
 use Rattle.calculus_laws.proofs.ViewAnswer.{ranged}
-use Rattle.am_traits.specs.Told.{query_at}
+use Rattle.base_trait.specs.Known.{query_at}
 use Rattle.quel_meaning.specs.FitQueries.{can_be_ranged_over, has_few_targets, kept_or_viewed, source_fits}
-use Rattle.view_text.specs.PutIn.{put_plain, put_range, put_source, range_cut, source_cut}
-use Rattle.view_text.specs.TextOf.{cut, text_of, text_within}
+use Rattle.view_text.specs.Expanded.{expanded_plain, expanded_range, expanded_source, range_restriction, source_restriction}
+use Rattle.view_text.specs.ExpansionOf.{restriction, expansion_of, expansion_within}
 use Rattle.view_expand.proofs.Viewing.{measure_of_view, permitted_of_kept, permitted_of_view}
 
 -- ---- what is said of what a variable ranges over
@@ -51,17 +51,17 @@ of_kept {X} said x nothing same db key h = go (relation_at db key) (view_at db k
 -- ---- the source and its condition
 
 pub source_of_view : (db : Db) → IsDatabase db → (who : Who) (key : RelKey) (q : Query) → Some q ≡ query_at db key
-    → rows_of_query (put_plain (text_within 15 db who) q) ≡ put_range db who key (range_at db key)
-source_of_view db d who key q h = of_view (put_range db who key) (λ q. rows_of_query (put_plain (text_within 15 db who) q)) (λ view. refl) db d key q h
+    → rows_of_query (expanded_plain (expansion_within 15 db who) q) ≡ expanded_range db who key (range_at db key)
+source_of_view db d who key q h = of_view (expanded_range db who key) (λ q. rows_of_query (expanded_plain (expansion_within 15 db who) q)) (λ view. refl) db d key q h
 
-pub cut_of_view : (db : Db) → IsDatabase db → (who : Who) (attrs : List ℕ) (key : RelKey) (q : Query) → Some q ≡ query_at db key → [] ≡ range_cut db who attrs key (range_at db key)
-cut_of_view db d who attrs key q h = of_view (range_cut db who attrs key) (λ q. []) (λ view. refl) db d key q h
+pub restriction_of_view : (db : Db) → IsDatabase db → (who : Who) (attrs : List ℕ) (key : RelKey) (q : Query) → Some q ≡ query_at db key → [] ≡ range_restriction db who attrs key (range_at db key)
+restriction_of_view db d who attrs key q h = of_view (range_restriction db who attrs key) (λ q. []) (λ view. refl) db d key q h
 
-pub source_of_kept : (db : Db) (who : Who) (key : RelKey) → None ≡ query_at db key → Named key ≡ put_range db who key (range_at db key)
-source_of_kept db who key h = of_kept (put_range db who key) (Named key) refl (λ relation. refl) db key h
+pub source_of_kept : (db : Db) (who : Who) (key : RelKey) → None ≡ query_at db key → Named key ≡ expanded_range db who key (range_at db key)
+source_of_kept db who key h = of_kept (expanded_range db who key) (Named key) refl (λ relation. refl) db key h
 
-pub cut_of_kept : (db : Db) (who : Who) (attrs : List ℕ) (key : RelKey) → None ≡ query_at db key → cut db who Retrieve attrs key ≡ range_cut db who attrs key (range_at db key)
-cut_of_kept db who attrs key h = of_kept (range_cut db who attrs key) (cut db who Retrieve attrs key) refl (λ relation. refl) db key h
+pub restriction_of_kept : (db : Db) (who : Who) (attrs : List ℕ) (key : RelKey) → None ≡ query_at db key → restriction db who Retrieve attrs key ≡ range_restriction db who attrs key (range_at db key)
+restriction_of_kept db who attrs key h = of_kept (range_restriction db who attrs key) (restriction db who Retrieve attrs key) refl (λ relation. refl) db key h
 
 -- ---- what may be read of it
 
@@ -77,12 +77,12 @@ readable_of_kept db who key attrs h = permitted_of_kept 16 db who key attrs h
 -- ---- the rows of a query
 
 pub rows_put : (db : Db) (who : Who) (source : AggSource) (q given : Query) → source ≡ Rows q → given ≡ q
-    → rows_of_query (put_plain (text_within 16 db who) given) ≡ put_source db who source
-unfolding text_of
-rows_put db who source q given h e = ap (λ q. rows_of_query (put_plain (text_within 16 db who) q)) e ∙ sym (ap (put_source db who) (h ∙ rows_is q))
+    → rows_of_query (expanded_plain (expansion_within 16 db who) given) ≡ expanded_source db who source
+unfolding expansion_of
+rows_put db who source q given h e = ap (λ q. rows_of_query (expanded_plain (expansion_within 16 db who) q)) e ∙ sym (ap (expanded_source db who) (h ∙ rows_is q))
 
-pub rows_cut : (db : Db) (who : Who) (attrs : List ℕ) (source : AggSource) (q : Query) → source ≡ Rows q → [] ≡ source_cut db who attrs source
-rows_cut db who attrs source q h = sym (ap (source_cut db who attrs) (h ∙ rows_is q))
+pub rows_restriction : (db : Db) (who : Who) (attrs : List ℕ) (source : AggSource) (q : Query) → source ≡ Rows q → [] ≡ source_restriction db who attrs source
+rows_restriction db who attrs source q h = sym (ap (source_restriction db who attrs) (h ∙ rows_is q))
 
 pub rows_readable : (db : Db) (who : Who) (attrs : List ℕ) (source : AggSource) (q given : Query) → source ≡ Rows q → given ≡ q
     → vars_permitted (permitted_within 16 db who) given (used_vars given) ≡ source_permitted (readable db who) attrs source
@@ -126,12 +126,12 @@ lists_one : (db : Db) (q : Query) → source_fits (kept_or_viewed db) db (rows_o
 unfolding source_fits
 lists_one db q h =
     leb-true (length (vars_of q)) 1
-    (left_true (nat_le (length (vars_of q)) 1) (has_few_targets q && query_stands db q)
-    (right_true (list_all (kept_or_viewed db).source (vars_of q)) (nat_le (length (vars_of q)) 1 && (has_few_targets q && query_stands db q)) h))
+    (left_true (nat_le (length (vars_of q)) 1) (has_few_targets q && valid_query db q)
+    (right_true (list_all (kept_or_viewed db).source (vars_of q)) (nat_le (length (vars_of q)) 1 && (has_few_targets q && valid_query db q)) h))
 
 all_may : (db : Db) (q : Query) → source_fits (kept_or_viewed db) db (rows_of_query q) ≡ true → list_all (kept_or_viewed db).source (vars_of q) ≡ true
 unfolding source_fits
-all_may db q h = left_true (list_all (kept_or_viewed db).source (vars_of q)) (nat_le (length (vars_of q)) 1 && (has_few_targets q && query_stands db q)) h
+all_may db q h = left_true (list_all (kept_or_viewed db).source (vars_of q)) (nat_le (length (vars_of q)) 1 && (has_few_targets q && valid_query db q)) h
 
 fits_so : (db : Db) (q : Query) → source_fits (kept_or_viewed db) db (Rows q) ≡ true → source_fits (kept_or_viewed db) db (rows_of_query q) ≡ true
 fits_so db q h = sym (ap (source_fits (kept_or_viewed db) db) (rows_is q)) ∙ h

@@ -11,22 +11,22 @@ use Rattle.calculus.specs.Used.{used_in_query}
 use Rattle.calculus.specs.Assignments.{changed}
 use Rattle.calculus.specs.Sizes.{measure_of}
 use Rattle.calculus.specs.Permission.{readable, change_permitted}
-use Rattle.view_text.specs.declared.text.Text.{Text}
-use Rattle.view_text.specs.Texts.{used_text}
-use Rattle.view_text.specs.TextOf.{text_of}
-use Rattle.view_text.specs.PutIn.{update_text}
+use Rattle.view_text.specs.declared.expansion.Expansion.{Expansion}
+use Rattle.view_text.specs.Expansions.{used_expansion}
+use Rattle.view_text.specs.ExpansionOf.{expansion_of}
+use Rattle.view_text.specs.Expanded.{update_expansion}
 
 -- ---- of a query
 
--- the text of a variable
-abbrev pub read_text : Db → Who → Query → ℕ × RelKey → Text
-read_text db who q p = used_text (text_of db who) p.1 (used_in_query p.0 q)
+-- the expansion of a variable
+abbrev pub read_expansion : Db → Who → Query → ℕ × RelKey → Expansion
+read_expansion db who q p = used_expansion (expansion_of db who) p.1 (used_in_query p.0 q)
 
 -- a variable may be read, where it is used
 abbrev pub may_be_read : Db → Who → Query → ℕ × RelKey → Bool
 may_be_read db who q p = cond (is_any (used_in_query p.0 q)) (readable db who p.1 (used_in_query p.0 q)) true
 
--- a variable that is used has few variables once the views in it are put in
+-- a variable that is used has few variables once the views in it are expanded
 abbrev pub is_small : Db → Query → ℕ × RelKey → Bool
 is_small db q p = cond (is_any (used_in_query p.0 q)) (nat_le (measure_of db p.1).variables 256) true
 
@@ -36,9 +36,9 @@ is_small db q p = cond (is_any (used_in_query p.0 q)) (nat_le (measure_of db p.1
 abbrev pub changed_by : Update → ℕ → Option Right
 changed_by u v = elim (changed u) [ None ↦ None | Some c ↦ elim (c.0 == v) [ true ↦ Some c.1 | false ↦ None ] ]
 
--- the text of a variable
-abbrev pub text_in : Db → Who → Update → ℕ × RelKey → Text
-text_in db who u p = update_text db who u p.0 p.1
+-- the expansion of a variable
+abbrev pub expansion_in : Db → Who → Update → ℕ × RelKey → Expansion
+expansion_in db who u p = update_expansion db who u p.0 p.1
 
 -- a variable may be so changed, and else be read
 abbrev pub may_be_used : Db → Who → Update → ℕ × RelKey → Bool
@@ -47,7 +47,7 @@ may_be_used db who u p = elim (changed_by u p.0) [
   | Some right ↦ change_permitted db who right u.places p.1 (used_in_query p.0 u.query)
 ]
 
--- a variable that is used, and stays, has few variables once the views in it are put in
+-- a variable that is used, and stays, has few variables once the views in it are expanded
 abbrev pub is_small_in : Db → Update → ℕ × RelKey → Bool
 is_small_in db u p = elim (changed_by u p.0) [ None ↦ is_small db u.query p | Some right ↦ true ]
 

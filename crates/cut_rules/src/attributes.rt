@@ -55,7 +55,7 @@ fn put_all_named(terms: &[QTerm], attrs: &mut Vec<u8>) -> Result<(), OutOfMemory
 
 /// Puts those that a qualification names behind the others.
 #[tactic(auto, using(ovqp::proofs::NamedForms::named_true, ovqp::proofs::NamedForms::named_cmp, ovqp::proofs::NamedForms::named_like, ovqp::proofs::NamedForms::named_and, ovqp::proofs::NamedForms::named_or, ovqp::proofs::NamedForms::named_not))]
-fn put_in_qual(q: &QQual, attrs: &mut Vec<u8>) -> Result<(), OutOfMemory>
+fn substituted_qual(q: &QQual, attrs: &mut Vec<u8>) -> Result<(), OutOfMemory>
     ensures { OnOk result (attrs.new.items ≡ attrs.old.items ++ named_in_qual 0 q.now) }
 {
     match q {
@@ -69,26 +69,26 @@ fn put_in_qual(q: &QQual, attrs: &mut Vec<u8>) -> Result<(), OutOfMemory>
             pattern: _,
             same: _,
         } => put_named(term, attrs),
-        QQual::And(left, right) => match put_in_qual(left.get(), attrs) {
-            Ok(()) => put_in_qual(right.get(), attrs),
+        QQual::And(left, right) => match substituted_qual(left.get(), attrs) {
+            Ok(()) => substituted_qual(right.get(), attrs),
             Err(error) => Err(error),
         },
-        QQual::Or(left, right) => match put_in_qual(left.get(), attrs) {
-            Ok(()) => put_in_qual(right.get(), attrs),
+        QQual::Or(left, right) => match substituted_qual(left.get(), attrs) {
+            Ok(()) => substituted_qual(right.get(), attrs),
             Err(error) => Err(error),
         },
-        QQual::Not(inner) => put_in_qual(inner.get(), attrs),
+        QQual::Not(inner) => substituted_qual(inner.get(), attrs),
     }
 }
 
 /// The attributes that an aggregate names of its source's row, by place: in its argument, its by-list
-/// and its qualification. They stand in the order of the text, each as often as it is named.
+/// and its qualification. They stand in the order of the expansion, each as often as it is named.
 pub(crate) fn aggregate_uses(alloc: Global, g: &QAgg) -> Result<Vec<u8>, OutOfMemory>
     ensures { IfOk result (λ attrs. attrs.items ≡ used_in_aggregate g.now) }
 {
     let mut attrs = Vec::new(alloc);
     put_named(&g.arg, &mut attrs)?;
     put_all_named(g.by.items(), &mut attrs)?;
-    put_in_qual(&g.qual, &mut attrs)?;
+    substituted_qual(&g.qual, &mut attrs)?;
     Ok(attrs)
 }

@@ -1,10 +1,10 @@
-//! Trees cut down to what a user may see and change.
+//! Trees restricted to what a user may see and change.
 
 ghost use Rattle.std.specs.Prelude.{◌≡◌, ◌++◌, [], ◌∷◌, map, true, false, Some, Contains, IfOk, OnOk, option_map};
 ghost use Rattle.std.specs.List.{list_all};
 ghost use Rattle.calculus.specs.Database.{Db};
 ghost use Rattle.calculus.specs.Permission.{query_permitted};
-ghost use Rattle.calculus.specs.Who.{Free, asks};
+ghost use Rattle.calculus.specs.Who.{Unrestricted, as_user};
 ghost use Rattle.calculus.specs.declared.request.Asked.{Asked as AskedFor};
 ghost use Rattle.calculus.specs.declared.request.Checked.TheVariants.{Answer};
 ghost use Rattle.cut_rules.specs.Causes.{HasCause};
@@ -15,28 +15,28 @@ ghost use Rattle.quel_meaning.specs.Meaning.{checked_permitted, tree_meaning};
 ghost use Rattle.fault_io.specs.Files.{Files};
 ghost use Rattle.view_expand.specs.Asking.{who_of};
 ghost use Rattle.view_expand.specs.Found.{IsFound};
-ghost use Rattle.view_text.specs.PutIn.{put_in_asked, put_in_tree};
+ghost use Rattle.view_text.specs.Expanded.{expanded_asked, expanded_tree};
 
 use crate::CutFault;
-use crate::put_in::put_in;
-use crate::updates::put_in_update;
-use am_traits::Base;
+use crate::expanded::expanded;
+use crate::updates::expanded_update;
+use base_trait::Base;
 use calculus::{Asked, Checked, List, Name, TryCopy};
 use std::alloc::Global;
-use view_expand::TextsFound;
+use view_expand::ExpansionsFound;
 
-/// Puts the query that is asked, with the texts of its variables put in, behind those that are there.
+/// Puts the query that is asked, with its variables expanded, behind those that are there.
 fn put_asked<B: Base>(
     alloc: Global,
     base: &mut B,
     who: Option<&Name>,
     asked: &Asked,
     made: &mut Vec<Asked>,
-    found: &mut TextsFound,
+    found: &mut ExpansionsFound,
 ) -> Result<(), CutFault>
     requires fit { (db : Db) → B.database base.old ≡ Some db → asked_fits (kept_or_viewed db) db asked.now ≡ true }
     requires found { (db : Db) → B.database base.old ≡ Some db → IsFound db (who_of (option_map (λ n. n.now) who)) found.old }
-    ensures told { (db : Db) → B.database base.old ≡ Some db → OnOk result (made.new.items ≡ made.old.items ++ put_in_asked db (who_of (option_map (λ n. n.now) who.entry)) asked.now ∷ []) }
+    ensures known { (db : Db) → B.database base.old ≡ Some db → OnOk result (made.new.items ≡ made.old.items ++ expanded_asked db (who_of (option_map (λ n. n.now) who.entry)) asked.now ∷ []) }
     ensures permitted { (db : Db) → B.database base.old ≡ Some db → OnOk result (query_permitted db (who_of (option_map (λ n. n.now) who.entry)) asked.now.query ≡ true) }
     ensures found { (db : Db) → B.database base.old ≡ Some db → IsFound db (who_of (option_map (λ n. n.now) who.entry)) found.new }
     ensures kept { B.database base.new ≡ B.database base.old }
@@ -44,7 +44,7 @@ fn put_asked<B: Base>(
     ensures asked { (b : B) → B.asked b base.old → B.asked b base.new }
     ensures cause { HasCause (λ db var. (query_permitted db (who_of (option_map (λ n. n.now) who.entry)) asked.now.query ≡ false) × IsRefusedIn db (who_of (option_map (λ n. n.now) who.entry)) asked.now.query var) (B.database base.old) (B.faults base.old) (B.faults base.new) result }
 {
-    match put_in(alloc, base, who, &asked.query, found) {
+    match expanded(alloc, base, who, &asked.query, found) {
         Ok(query) => match asked.sort.copy(alloc) {
             Ok(sort) => match made.push(Asked { query, sort }) {
                 Ok(()) => Ok(()),
@@ -63,11 +63,11 @@ fn put_all_asked<B: Base>(
     who: Option<&Name>,
     asked: &[Asked],
     made: &mut Vec<Asked>,
-    found: &mut TextsFound,
+    found: &mut ExpansionsFound,
 ) -> Result<(), CutFault>
     requires fit { (db : Db) → B.database base.old ≡ Some db → list_all (asked_fits (kept_or_viewed db) db) asked.now ≡ true }
     requires found { (db : Db) → B.database base.old ≡ Some db → IsFound db (who_of (option_map (λ n. n.now) who)) found.old }
-    ensures told { (db : Db) → B.database base.old ≡ Some db → OnOk result (made.new.items ≡ made.old.items ++ map (put_in_asked db (who_of (option_map (λ n. n.now) who.entry))) asked.now) }
+    ensures known { (db : Db) → B.database base.old ≡ Some db → OnOk result (made.new.items ≡ made.old.items ++ map (expanded_asked db (who_of (option_map (λ n. n.now) who.entry))) asked.now) }
     ensures permitted { (db : Db) → B.database base.old ≡ Some db → OnOk result (list_all (λ a. query_permitted db (who_of (option_map (λ n. n.now) who.entry)) a.query) asked.now ≡ true) }
     ensures found { (db : Db) → B.database base.old ≡ Some db → IsFound db (who_of (option_map (λ n. n.now) who.entry)) found.new }
     ensures kept { B.database base.new ≡ B.database base.old }
@@ -89,11 +89,11 @@ fn asked_tree<B: Base>(
     base: &mut B,
     who: Option<&Name>,
     asked: &[Asked],
-    found: &mut TextsFound,
+    found: &mut ExpansionsFound,
 ) -> Result<Checked, CutFault>
     requires fit { (db : Db) → B.database base.old ≡ Some db → list_all (asked_fits (kept_or_viewed db) db) asked.now ≡ true }
     requires found { (db : Db) → B.database base.old ≡ Some db → IsFound db (who_of (option_map (λ n. n.now) who)) found.old }
-    ensures told { (db : Db) → B.database base.old ≡ Some db → IfOk result (λ made. made ≡ Answer (map (put_in_asked db (who_of (option_map (λ n. n.now) who.entry))) asked.now)) }
+    ensures known { (db : Db) → B.database base.old ≡ Some db → IfOk result (λ made. made ≡ Answer (map (expanded_asked db (who_of (option_map (λ n. n.now) who.entry))) asked.now)) }
     ensures permitted { (db : Db) → B.database base.old ≡ Some db → OnOk result (list_all (λ a. query_permitted db (who_of (option_map (λ n. n.now) who.entry)) a.query) asked.now ≡ true) }
     ensures found { (db : Db) → B.database base.old ≡ Some db → IsFound db (who_of (option_map (λ n. n.now) who.entry)) found.new }
     ensures kept { B.database base.new ≡ B.database base.old }
@@ -108,27 +108,27 @@ fn asked_tree<B: Base>(
     }
 }
 
-/// The tree with the texts of its variables put in, for the user.
-fn put_in_tree<B: Base>(
+/// The tree with its variables expanded, for the user.
+fn expanded_tree<B: Base>(
     alloc: Global,
     base: &mut B,
     user: &Name,
     tree: &Checked,
-    found: &mut TextsFound,
+    found: &mut ExpansionsFound,
 ) -> Result<Checked, CutFault>
     requires fit { (db : Db) → B.database base.old ≡ Some db → is_fit_with_views db user.now tree.now ≡ true }
-    requires found { (db : Db) → B.database base.old ≡ Some db → IsFound db (asks user.now) found.old }
-    ensures told { (db : Db) → B.database base.old ≡ Some db → IfOk result (λ made. made ≡ put_in_tree db (asks user.now) tree.now) }
-    ensures permitted { (db : Db) → B.database base.old ≡ Some db → OnOk result (checked_permitted db (asks user.now) tree.now ≡ true) }
-    ensures found { (db : Db) → B.database base.old ≡ Some db → IsFound db (asks user.now) found.new }
+    requires found { (db : Db) → B.database base.old ≡ Some db → IsFound db (as_user user.now) found.old }
+    ensures known { (db : Db) → B.database base.old ≡ Some db → IfOk result (λ made. made ≡ expanded_tree db (as_user user.now) tree.now) }
+    ensures permitted { (db : Db) → B.database base.old ≡ Some db → OnOk result (checked_permitted db (as_user user.now) tree.now ≡ true) }
+    ensures found { (db : Db) → B.database base.old ≡ Some db → IsFound db (as_user user.now) found.new }
     ensures kept { B.database base.new ≡ B.database base.old }
     ensures stays { (s : Db) → B.schema base.old ≡ Some s → B.schema base.new ≡ Some s }
     ensures asked { (b : B) → B.asked b base.old → B.asked b base.new }
-    ensures cause { HasCause (λ db var. (checked_permitted db (asks user.now) tree.now ≡ false) × IsRefusedBy db (asks user.now) tree.now var) (B.database base.old) (B.faults base.old) (B.faults base.new) result }
+    ensures cause { HasCause (λ db var. (checked_permitted db (as_user user.now) tree.now ≡ false) × IsRefusedBy db (as_user user.now) tree.now var) (B.database base.old) (B.faults base.old) (B.faults base.new) result }
 {
     match tree {
         Checked::Answer(asked) => asked_tree(alloc, base, Some(user), asked.items(), found),
-        Checked::Update(u) => match put_in_update(alloc, base, Some(user), u, found) {
+        Checked::Update(u) => match expanded_update(alloc, base, Some(user), u, found) {
             Ok(u) => Ok(Checked::Update(u)),
             Err(fault) => Err(fault),
         },
@@ -139,8 +139,8 @@ fn put_in_tree<B: Base>(
     }
 }
 
-/// The tree over base relations and catalogues alone, its views put in and cut down to what the user may
-/// see and change: it means for nobody in particular what the given one means for the user. A utility
+/// The tree over base relations and catalogues alone, its views expanded and restricted to what the user may
+/// see and change: it means unrestricted what the given one means for the user. A utility
 /// stays as it is. `NoPermit` exactly where something that is read or changed isn't permitted, and then a
 /// variable that is refused: by its place in its query; 255 for what an aggregate names, and for the
 /// relation of an append.
@@ -151,16 +151,16 @@ pub fn cut_permits<B: Base>(
     base: &mut B,
 ) -> Result<Checked, CutFault>
     requires { (db : Db) → B.database base.old ≡ Some db → is_fit_with_views db user.now tree ≡ true }
-    ensures told { (db : Db) → B.database base.old ≡ Some db → IfOk result (λ made. made ≡ put_in_tree db (asks user.now) tree) }
-    ensures means { (db : Db) → B.database base.old ≡ Some db → (shelf : Files) → IfOk result (λ made. tree_meaning db shelf Free user.now made ≡ tree_meaning db shelf (asks user.now) user.now tree) }
-    ensures permitted { (db : Db) → B.database base.old ≡ Some db → OnOk result (checked_permitted db (asks user.now) tree ≡ true) }
+    ensures known { (db : Db) → B.database base.old ≡ Some db → IfOk result (λ made. made ≡ expanded_tree db (as_user user.now) tree) }
+    ensures means { (db : Db) → B.database base.old ≡ Some db → (shelf : Files) → IfOk result (λ made. tree_meaning db shelf Unrestricted user.now made ≡ tree_meaning db shelf (as_user user.now) user.now tree) }
+    ensures permitted { (db : Db) → B.database base.old ≡ Some db → OnOk result (checked_permitted db (as_user user.now) tree ≡ true) }
     ensures kept { B.database base.new ≡ B.database base.old }
     ensures stays { (s : Db) → B.schema base.old ≡ Some s → B.schema base.new ≡ Some s }
     ensures asked { (b : B) → B.asked b base.old → B.asked b base.new }
-    ensures cause { HasCause (λ db var. (checked_permitted db (asks user.now) tree ≡ false) × IsRefusedBy db (asks user.now) tree var) (B.database base.old) (B.faults base.old) (B.faults base.new) result }
+    ensures cause { HasCause (λ db var. (checked_permitted db (as_user user.now) tree ≡ false) × IsRefusedBy db (as_user user.now) tree var) (B.database base.old) (B.faults base.old) (B.faults base.new) result }
 {
-    let mut found = TextsFound::new(alloc);
-    let made = put_in_tree(alloc, base, user, &tree, &mut found);
+    let mut found = ExpansionsFound::new(alloc);
+    let made = expanded_tree(alloc, base, user, &tree, &mut found);
     drop(tree);
     made
 }

@@ -1,23 +1,23 @@
-//! Queries with the views in them put in.
+//! Queries with the views in them expanded.
 
 ghost use Rattle.std.specs.Prelude.{◌≡◌, ◌≤◌, ◌-◌, ◌^◌, min, true, Some, IfErr, IfOk, IsTrue, OnOk};
 ghost use Rattle.calculus.specs.Answer.{answer, lacks};
 ghost use Rattle.calculus.specs.Database.{Db};
 ghost use Rattle.calculus.specs.Sizes.{expanded_variables};
-ghost use Rattle.calculus.specs.Who.{Free};
+ghost use Rattle.calculus.specs.Who.{Unrestricted};
 ghost use Rattle.cut_rules.specs.Causes.{HasExpandCause, HasMany};
 ghost use Rattle.cut_rules.specs.Faults.{unexpanded};
 ghost use Rattle.quel_meaning.specs.FitQueries.{kept_or_viewed, reads_fit};
 ghost use Rattle.tree_laws.specs.Nesting.{aggregates_nest_none};
-ghost use Rattle.view_text.specs.PutIn.{put_in};
+ghost use Rattle.view_text.specs.Expanded.{expanded};
 
-use crate::put_in::put_in;
+use crate::expanded::expanded;
 use crate::{CutFault, ExpandFault};
-use am_traits::{Base, BaseFault};
+use base_trait::{Base, BaseFault};
 use calculus::Query;
 use calculus::limits::MOST_EXPANDED_VARIABLES;
 use std::alloc::Global;
-use view_expand::TextsFound;
+use view_expand::ExpansionsFound;
 use view_sizes::expanded_variables;
 
 /// The variables that may result.
@@ -34,8 +34,8 @@ fn capped(vars: u64) -> u32
     }
 }
 
-/// Why the query isn't expanded, where its texts aren't put in. Nothing is refused to nobody in particular,
-/// and 50 variables have places: a base that answers so stands for no database.
+/// Why the query isn't expanded, where its expansions aren't put in. Nothing is refused where nobody is restricted,
+/// and 50 variables have places: a base that answers so denotes no database.
 fn unexpanded(fault: CutFault) -> ExpandFault
     ensures { result ≡ unexpanded fault }
 {
@@ -47,12 +47,12 @@ fn unexpanded(fault: CutFault) -> ExpandFault
     }
 }
 
-/// The query with its views put in, as `expand`.
+/// The query with its views expanded, as `expand`.
 fn expand_fixed<B: Base>(alloc: Global, base: &mut B, query: &Query) -> Result<Query, ExpandFault>
     requires { (db : Db) → B.database base.old ≡ Some db → reads_fit (kept_or_viewed db) db query.now ≡ true }
-    ensures told { (db : Db) → B.database base.old ≡ Some db → IfOk result (λ made. made ≡ put_in db Free query.now) }
-    ensures answer { (db : Db) → B.database base.old ≡ Some db → aggregates_nest_none query.now ≡ true → IfOk result (λ made. answer db Free made ≡ answer db Free query.now) }
-    ensures lacks { (db : Db) → B.database base.old ≡ Some db → aggregates_nest_none query.now ≡ true → IfOk result (λ made. lacks db Free made ≡ lacks db Free query.now) }
+    ensures known { (db : Db) → B.database base.old ≡ Some db → IfOk result (λ made. made ≡ expanded db Unrestricted query.now) }
+    ensures answer { (db : Db) → B.database base.old ≡ Some db → aggregates_nest_none query.now ≡ true → IfOk result (λ made. answer db Unrestricted made ≡ answer db Unrestricted query.now) }
+    ensures lacks { (db : Db) → B.database base.old ≡ Some db → aggregates_nest_none query.now ≡ true → IfOk result (λ made. lacks db Unrestricted made ≡ lacks db Unrestricted query.now) }
     ensures few { (db : Db) → B.database base.old ≡ Some db → OnOk result (expanded_variables db query.now ≤ 50) }
     ensures few_by_schema { (s : Db) → B.schema base.old ≡ Some s → reads_fit (kept_or_viewed s) s query.now ≡ true → OnOk result (expanded_variables s query.now ≤ 50) }
     ensures many_by_schema { (s : Db) → B.schema base.old ≡ Some s → reads_fit (kept_or_viewed s) s query.now ≡ true → IfErr result (HasMany s query.now) }
@@ -65,23 +65,23 @@ fn expand_fixed<B: Base>(alloc: Global, base: &mut B, query: &Query) -> Result<Q
     if vars > MOST_VARIABLES {
         return Err(ExpandFault::TooMany { vars: capped(vars) });
     }
-    let mut found = TextsFound::new(alloc);
-    match put_in(alloc, base, None, query, &mut found) {
+    let mut found = ExpansionsFound::new(alloc);
+    match expanded(alloc, base, None, query, &mut found) {
         Ok(made) => Ok(made),
         Err(fault) => Err(unexpanded(fault)),
     }
 }
 
-/// The query over base relations and catalogues alone, its views put in: it has the same answer for nobody
-/// in particular, and a target lacks a value in the same case, where no aggregate stands in another.
+/// The query over base relations and catalogues alone, its views expanded: it has the same answer
+/// unrestricted, and a target lacks a value in the same case, where no aggregate stands in another.
 /// `TooMany` exactly where more than 50 variables result, with their number: the schema decides that, which the
 /// first question fixes. Not for the query of an
 /// update, whose changed variable stays what it is.
 pub fn expand<B: Base>(alloc: Global, query: Query, base: &mut B) -> Result<Query, ExpandFault>
     requires { (db : Db) → B.database base.old ≡ Some db → reads_fit (kept_or_viewed db) db query ≡ true }
-    ensures told { (db : Db) → B.database base.old ≡ Some db → IfOk result (λ made. made ≡ put_in db Free query) }
-    ensures answer { (db : Db) → B.database base.old ≡ Some db → aggregates_nest_none query ≡ true → IfOk result (λ made. answer db Free made ≡ answer db Free query) }
-    ensures lacks { (db : Db) → B.database base.old ≡ Some db → aggregates_nest_none query ≡ true → IfOk result (λ made. lacks db Free made ≡ lacks db Free query) }
+    ensures known { (db : Db) → B.database base.old ≡ Some db → IfOk result (λ made. made ≡ expanded db Unrestricted query) }
+    ensures answer { (db : Db) → B.database base.old ≡ Some db → aggregates_nest_none query ≡ true → IfOk result (λ made. answer db Unrestricted made ≡ answer db Unrestricted query) }
+    ensures lacks { (db : Db) → B.database base.old ≡ Some db → aggregates_nest_none query ≡ true → IfOk result (λ made. lacks db Unrestricted made ≡ lacks db Unrestricted query) }
     ensures few { (db : Db) → B.database base.old ≡ Some db → OnOk result (expanded_variables db query ≤ 50) }
     ensures few_by_schema { IsTrue B.fixes → (s : Db) → B.schema base.new ≡ Some s → reads_fit (kept_or_viewed s) s query ≡ true
         → OnOk result (expanded_variables s query ≤ 50) }

@@ -4,14 +4,14 @@ ghost use Rattle.std.specs.Prelude.{◌≡◌};
 ghost use Rattle.cut_rules.specs.declared.fault.CutFault.TheVariants.{Base as OfBase, OutOfMemory as NoMemory};
 ghost use Rattle.cut_rules.specs.declared.fault.ExpandFault.TheVariants.{Base as ExpandBase, OutOfMemory as ExpandNoMemory};
 
-use am_traits::BaseFault;
+use base_trait::BaseFault;
 use calculus::OutOfMemory;
 
 /// The number in place of a variable's where an aggregate names what isn't permitted, and where the
 /// relation of an append may not be appended to.
 pub const NO_VARIABLE: u8 = 255;
 
-/// Why a tree isn't cut down to what is permitted.
+/// Why a tree isn't restricted to what is permitted.
 #[derive(Clone, Copy, Debug, PartialEq, Eq)]
 pub enum CutFault {
     /// The user has no permit for it.

@@ -1,17 +1,17 @@
-//! Cuts a tree down to what a user may see and change, with the views in it put in, and puts the rules of
+//! Cuts a tree down to what a user may see and change, with the views in it expanded, and puts the rules of
 //! the relation that is changed among the checks of an update.
 #![tactic(auto)]
 
 mod aggregates;
 mod attributes;
-mod changing;
+mod changed_variable;
 mod cutting;
+mod expanded;
 mod expanding;
+mod expansions;
 mod fault;
-mod put_in;
 mod rules;
 mod sources;
-mod texts;
 mod updates;
 
 pub use cutting::cut_permits;

@@ -1,11 +1,11 @@
 //! An update with the rules of the relation that it changes.
 
 ghost use Rattle.std.specs.Prelude.{◌≡◌, ◌++◌, map, Some, IfOk, OnOk};
-ghost use Rattle.am_traits.specs.Causes.{HasCause};
+ghost use Rattle.base_trait.specs.Causes.{HasCause};
 ghost use Rattle.calculus.specs.Database.{Db};
 ghost use Rattle.calculus.specs.Pairs.{ruled};
 
-use am_traits::{Base, BaseFault};
+use base_trait::{Base, BaseFault};
 use calculus::{List, OutOfMemory, QQual, Rule, TryCopy, Update, UpdateOp};
 use std::alloc::Global;
 use std::mem::replace;
@@ -48,7 +48,7 @@ fn with_rules(alloc: Global, rules: &[Rule], mut u: Update) -> Result<Update, Ou
 /// them. What makes a relation stays as it is, as that has no rules yet.
 #[tactic(auto, unfolding(calculus::specs::Pairs::ruled))]
 pub fn add_rules<B: Base>(alloc: Global, u: Update, base: &mut B) -> Result<Update, BaseFault>
-    ensures told { (db : Db) → B.schema base.old ≡ Some db → IfOk result (λ made. made ≡ ruled db u) }
+    ensures known { (db : Db) → B.schema base.old ≡ Some db → IfOk result (λ made. made ≡ ruled db u) }
     ensures by_schema { (s : Db) → B.schema base.new ≡ Some s → IfOk result (λ made. made ≡ ruled s u) }
     ensures kept { B.database base.new ≡ B.database base.old }
     ensures stays { (s : Db) → B.schema base.old ≡ Some s → B.schema base.new ≡ Some s }

@@ -1,4 +1,4 @@
-//! What an aggregate is over once views are put in, and the conditions on its rows.
+//! What an aggregate is over once views are expanded, and the conditions on its rows.
 
 ghost use Rattle.std.specs.Prelude.{◌≡◌, ◌≤◌, true, false, [], length, Some, IfOk, OnOk, option_map};
 ghost use Rattle.std.specs.Option.{option_to_list};
@@ -15,14 +15,14 @@ ghost use Rattle.quel_meaning.specs.FitQueries.{kept_or_viewed, source_fits};
 ghost use Rattle.view_expand.specs.Asking.{who_of};
 ghost use Rattle.view_expand.specs.Causes.{HasCause};
 ghost use Rattle.view_expand.specs.Found.{IsFound};
-ghost use Rattle.view_text.specs.PutIn.{put_plain, put_range, put_source, range_cut, source_cut};
-ghost use Rattle.view_text.specs.TextOf.{cut, text_within};
+ghost use Rattle.view_text.specs.Expanded.{expanded_plain, expanded_range, expanded_source, range_restriction, source_restriction};
+ghost use Rattle.view_text.specs.ExpansionOf.{restriction, expansion_within};
 
-use am_traits::Base;
+use base_trait::Base;
 use calculus::limits::MOST_LEVEL;
 use calculus::{AggSource, Boxed, Name, OutOfMemory, QQual, Query, RelKey, TryCopy};
 use std::alloc::Global;
-use view_expand::{Right, TextFault, TextsFound, cut, put_plain};
+use view_expand::{ExpansionFault, ExpansionsFound, Right, expanded_plain, restriction};
 
 /// The rows of a query.
 #[tactic(auto, using(calculus::proofs::Forms::rows_is))]
@@ -35,7 +35,7 @@ fn rows_of(alloc: Global, query: Query) -> Result<AggSource, OutOfMemory>
     }
 }
 
-/// The rows of a query with the texts of its variables put in, which go through at most so many levels of
+/// The rows of a query with its variables expanded, which go through at most so many levels of
 /// views; they need no further condition. `NoPermit` exactly where a variable that is used may not be
 /// read.
 fn rows_source<B: Base>(
@@ -44,13 +44,13 @@ fn rows_source<B: Base>(
     who: Option<&Name>,
     query: &Query,
     levels: u8,
-    found: &mut TextsFound,
-) -> Result<(AggSource, Option<QQual>), TextFault>
+    found: &mut ExpansionsFound,
+) -> Result<(AggSource, Option<QQual>), ExpansionFault>
     requires listed { (db : Db) → B.database base.old ≡ Some db → length (vars_of query.now) ≤ 256 }
     requires expanded { (db : Db) → B.database base.old ≡ Some db → (query_measure (measure_within levels db) query.now).variables ≤ 256 }
     requires found { (db : Db) → B.database base.old ≡ Some db → IsFound db (who_of (option_map (λ n. n.now) who)) found.old }
-    ensures told { (db : Db) → B.database base.old ≡ Some db → IfOk result (λ made. made.0 ≡ rows_of_query (put_plain (text_within levels db (who_of (option_map (λ n. n.now) who.entry))) query.now)) }
-    ensures free { IfOk result (λ made. option_to_list made.1 ≡ []) }
+    ensures known { (db : Db) → B.database base.old ≡ Some db → IfOk result (λ made. made.0 ≡ rows_of_query (expanded_plain (expansion_within levels db (who_of (option_map (λ n. n.now) who.entry))) query.now)) }
+    ensures unrestricted { IfOk result (λ made. option_to_list made.1 ≡ []) }
     ensures permitted { (db : Db) → B.database base.old ≡ Some db → OnOk result (vars_permitted (permitted_within levels db (who_of (option_map (λ n. n.now) who.entry))) query.now (used_vars query.now) ≡ true) }
     ensures found { (db : Db) → B.database base.old ≡ Some db → IsFound db (who_of (option_map (λ n. n.now) who.entry)) found.new }
     ensures kept { B.database base.new ≡ B.database base.old }
@@ -58,10 +58,10 @@ fn rows_source<B: Base>(
     ensures asked { (b : B) → B.asked b base.old → B.asked b base.new }
     ensures cause { HasCause (λ db. vars_permitted (permitted_within levels db (who_of (option_map (λ n. n.now) who.entry))) query.now (used_vars query.now) ≡ false) (B.database base.old) (B.faults base.old) (B.faults base.new) result }
 {
-    match put_plain(alloc, base, who, query, levels, found) {
+    match expanded_plain(alloc, base, who, query, levels, found) {
         Ok(query) => match rows_of(alloc, query) {
             Ok(source) => Ok((source, None)),
-            Err(_) => Err(TextFault::OutOfMemory),
+            Err(_) => Err(ExpansionFault::OutOfMemory),
         },
         Err(error) => Err(error),
     }
@@ -75,11 +75,11 @@ fn kept_source<B: Base>(
     who: Option<&Name>,
     key: &RelKey,
     attrs: &[u8],
-    found: &mut TextsFound,
-) -> Result<(AggSource, Option<QQual>), TextFault>
+    found: &mut ExpansionsFound,
+) -> Result<(AggSource, Option<QQual>), ExpansionFault>
     requires found { (db : Db) → B.database base.old ≡ Some db → IsFound db (who_of (option_map (λ n. n.now) who)) found.old }
     ensures named { IfOk result (λ made. made.0 ≡ Named key.now) }
-    ensures told { (db : Db) → B.database base.old ≡ Some db → IfOk result (λ made. option_to_list made.1 ≡ cut db (who_of (option_map (λ n. n.now) who.entry)) Retrieve attrs.now key.now) }
+    ensures known { (db : Db) → B.database base.old ≡ Some db → IfOk result (λ made. option_to_list made.1 ≡ restriction db (who_of (option_map (λ n. n.now) who.entry)) Retrieve attrs.now key.now) }
     ensures permitted { (db : Db) → B.database base.old ≡ Some db → OnOk result (permitted db (who_of (option_map (λ n. n.now) who.entry)) Retrieve attrs.now key.now ≡ true) }
     ensures found { (db : Db) → B.database base.old ≡ Some db → IsFound db (who_of (option_map (λ n. n.now) who.entry)) found.new }
     ensures kept { B.database base.new ≡ B.database base.old }
@@ -87,10 +87,10 @@ fn kept_source<B: Base>(
     ensures asked { (b : B) → B.asked b base.old → B.asked b base.new }
     ensures cause { HasCause (λ db. permitted db (who_of (option_map (λ n. n.now) who.entry)) Retrieve attrs.now key.now ≡ false) (B.database base.old) (B.faults base.old) (B.faults base.new) result }
 {
-    match cut(alloc, base, who, Right::Retrieve, attrs, key, found) {
+    match restriction(alloc, base, who, Right::Retrieve, attrs, key, found) {
         Ok(condition) => match key.copy(alloc) {
             Ok(key) => Ok((AggSource::Named(key), condition)),
-            Err(_) => Err(TextFault::OutOfMemory),
+            Err(_) => Err(ExpansionFault::OutOfMemory),
         },
         Err(error) => Err(error),
     }
@@ -104,12 +104,12 @@ fn named_source<B: Base>(
     who: Option<&Name>,
     key: &RelKey,
     attrs: &[u8],
-    found: &mut TextsFound,
-) -> Result<(AggSource, Option<QQual>), TextFault>
+    found: &mut ExpansionsFound,
+) -> Result<(AggSource, Option<QQual>), ExpansionFault>
     requires few { (db : Db) → B.database base.old ≡ Some db → (measure_of db key.now).variables ≤ 256 }
     requires found { (db : Db) → B.database base.old ≡ Some db → IsFound db (who_of (option_map (λ n. n.now) who)) found.old }
-    ensures told { (db : Db) → B.database base.old ≡ Some db → IfOk result (λ made. made.0 ≡ put_range db (who_of (option_map (λ n. n.now) who.entry)) key.now (range_at db key.now)) }
-    ensures cuts { (db : Db) → B.database base.old ≡ Some db → IfOk result (λ made. option_to_list made.1 ≡ range_cut db (who_of (option_map (λ n. n.now) who.entry)) attrs.now key.now (range_at db key.now)) }
+    ensures known { (db : Db) → B.database base.old ≡ Some db → IfOk result (λ made. made.0 ≡ expanded_range db (who_of (option_map (λ n. n.now) who.entry)) key.now (range_at db key.now)) }
+    ensures cuts { (db : Db) → B.database base.old ≡ Some db → IfOk result (λ made. option_to_list made.1 ≡ range_restriction db (who_of (option_map (λ n. n.now) who.entry)) attrs.now key.now (range_at db key.now)) }
     ensures permitted { (db : Db) → B.database base.old ≡ Some db → OnOk result (readable db (who_of (option_map (λ n. n.now) who.entry)) key.now attrs.now ≡ true) }
     ensures found { (db : Db) → B.database base.old ≡ Some db → IsFound db (who_of (option_map (λ n. n.now) who.entry)) found.new }
     ensures kept { B.database base.new ≡ B.database base.old }
@@ -129,18 +129,18 @@ fn named_source<B: Base>(
 
 /// What an aggregate is over that was over this, where it reads these attributes, with the condition on
 /// the rows. `NoPermit` exactly where what the source names may not be read.
-pub(crate) fn put_source<B: Base>(
+pub(crate) fn expanded_source<B: Base>(
     alloc: Global,
     base: &mut B,
     who: Option<&Name>,
     source: &AggSource,
     attrs: &[u8],
-    found: &mut TextsFound,
-) -> Result<(AggSource, Option<QQual>), TextFault>
+    found: &mut ExpansionsFound,
+) -> Result<(AggSource, Option<QQual>), ExpansionFault>
     requires fits { (db : Db) → B.database base.old ≡ Some db → source_fits (kept_or_viewed db) db source.now ≡ true }
     requires found { (db : Db) → B.database base.old ≡ Some db → IsFound db (who_of (option_map (λ n. n.now) who)) found.old }
-    ensures told { (db : Db) → B.database base.old ≡ Some db → IfOk result (λ made. made.0 ≡ put_source db (who_of (option_map (λ n. n.now) who.entry)) source.now) }
-    ensures cuts { (db : Db) → B.database base.old ≡ Some db → IfOk result (λ made. option_to_list made.1 ≡ source_cut db (who_of (option_map (λ n. n.now) who.entry)) attrs.now source.now) }
+    ensures known { (db : Db) → B.database base.old ≡ Some db → IfOk result (λ made. made.0 ≡ expanded_source db (who_of (option_map (λ n. n.now) who.entry)) source.now) }
+    ensures cuts { (db : Db) → B.database base.old ≡ Some db → IfOk result (λ made. option_to_list made.1 ≡ source_restriction db (who_of (option_map (λ n. n.now) who.entry)) attrs.now source.now) }
     ensures permitted { (db : Db) → B.database base.old ≡ Some db → OnOk result (source_permitted (readable db (who_of (option_map (λ n. n.now) who.entry))) attrs.now source.now ≡ true) }
     ensures found { (db : Db) → B.database base.old ≡ Some db → IsFound db (who_of (option_map (λ n. n.now) who.entry)) found.new }
     ensures kept { B.database base.new ≡ B.database base.old }

@@ -1,4 +1,4 @@
-//! Updates with the texts of their variables put in.
+//! Updates with their variables expanded.
 
 ghost use Rattle.std.specs.Prelude.{◌≡◌, ◌⊎◌, ◌+◌, ◌≤◌, ◌++◌, [], ◌∷◌, map, true, false, Some, length, IfOk, IfErr, OnOk, option_map};
 ghost use Rattle.std.specs.List.{enumerate_from, list_all};
@@ -9,28 +9,28 @@ ghost use Rattle.calculus.specs.Rights.{Append, permitted};
 ghost use Rattle.calculus.specs.Used.{used_in_query};
 ghost use Rattle.calculus.specs.declared.request.UpdateOp.TheVariants as op;
 ghost use Rattle.cut_rules.specs.Causes.{HasCause};
-ghost use Rattle.cut_rules.specs.Placed.{IsRefusedAt, is_small_in, may_be_used, text_in};
+ghost use Rattle.cut_rules.specs.Placed.{IsRefusedAt, is_small_in, may_be_used, expansion_in};
 ghost use Rattle.cut_rules.specs.Refused.{HasRefusedAggregate, IsRefusedAppend, IsRefusedOf};
 ghost use Rattle.cut_rules.specs.declared.fault.CutFault.TheVariants.{OutOfMemory as NoMemory};
 ghost use Rattle.quel_meaning.specs.Fit.{update_fits};
 ghost use Rattle.quel_meaning.specs.FitQueries.{kept_or_viewed, reads_fit};
 ghost use Rattle.view_expand.specs.Asking.{right_of, who_of};
 ghost use Rattle.view_expand.specs.Found.{IsFound};
-ghost use Rattle.view_text.specs.PutIn.{changed_text, put_cut, put_in_update, put_over, put_place};
+ghost use Rattle.view_text.specs.Expanded.{changed_expansion, append_restriction, expanded_update, expanded_over, put_place};
 ghost use Rattle.view_text.specs.Scoped.{is_scoped};
-ghost use Rattle.view_text.specs.Texts.{place_from, texts_vars};
+ghost use Rattle.view_text.specs.Expansions.{place_from, expansions_vars};
 
-use crate::changing::{appended_cut, changed_by, changed_text};
-use crate::put_in::put_over;
-use crate::texts::{PLACES, are_few, fault_at, put_behind, read_text};
+use crate::changed_variable::{appended_restriction, changed_by, changed_expansion};
+use crate::expanded::expanded_over;
+use crate::expansions::{PLACES, are_few, fault_at, put_behind, read_expansion};
 use crate::{CutFault, NO_VARIABLE};
-use am_traits::Base;
+use base_trait::Base;
 use calculus::{Name, QQual, Query, RelKey, TryCopy, Update, UpdateOp};
 use memory::both;
 use ovqp::uses;
 use std::alloc::Global;
-use view_expand::{Right, TextsFound};
-use view_text::Text;
+use view_expand::{ExpansionsFound, Right};
+use view_text::Expansion;
 
 /// The last place that a variable may have.
 const LAST_PLACE: usize = 255;
@@ -44,12 +44,12 @@ fn changed_at<B: Base>(
     right: Right,
     place: u8,
     key: &RelKey,
-    found: &mut TextsFound,
-) -> Result<Text, CutFault>
+    found: &mut ExpansionsFound,
+) -> Result<Expansion, CutFault>
     requires found { (db : Db) → B.database base.old ≡ Some db → IsFound db (who_of (option_map (λ n. n.now) who)) found.old }
-    ensures told { (db : Db) → B.database base.old ≡ Some db → IfOk result (λ text. text ≡ changed_text db (who_of (option_map (λ n. n.now) who.entry)) (right_of right) u.now.places (used_in_query place u.now.query) key.now) }
+    ensures known { (db : Db) → B.database base.old ≡ Some db → IfOk result (λ expansion. expansion ≡ changed_expansion db (who_of (option_map (λ n. n.now) who.entry)) (right_of right) u.now.places (used_in_query place u.now.query) key.now) }
     ensures permitted { (db : Db) → B.database base.old ≡ Some db → OnOk result (change_permitted db (who_of (option_map (λ n. n.now) who.entry)) (right_of right) u.now.places key.now (used_in_query place u.now.query) ≡ true) }
-    ensures scoped { IfOk result (λ text. is_scoped text ≡ true) }
+    ensures scoped { IfOk result (λ expansion. is_scoped expansion ≡ true) }
     ensures found { (db : Db) → B.database base.old ≡ Some db → IsFound db (who_of (option_map (λ n. n.now) who.entry)) found.new }
     ensures kept { B.database base.new ≡ B.database base.old }
     ensures stays { (s : Db) → B.schema base.old ≡ Some s → B.schema base.new ≡ Some s }
@@ -57,7 +57,7 @@ fn changed_at<B: Base>(
     ensures cause { HasCause (λ db var. (var ≡ place) × (change_permitted db (who_of (option_map (λ n. n.now) who.entry)) (right_of right) u.now.places key.now (used_in_query place u.now.query) ≡ false)) (B.database base.old) (B.faults base.old) (B.faults base.new) result }
 {
     match uses(alloc, &u.query, place) {
-        Ok(read) => match changed_text(
+        Ok(read) => match changed_expansion(
             alloc,
             base,
             who,
@@ -67,29 +67,29 @@ fn changed_at<B: Base>(
             key,
             found,
         ) {
-            Ok(text) => Ok(text),
+            Ok(expansion) => Ok(expansion),
             Err(fault) => Err(fault_at(fault, place)),
         },
         Err(_) => Err(CutFault::OutOfMemory),
     }
 }
 
-/// The text of an update's variable at a place, which ranges over this. `NoPermit` exactly where its rows
+/// The expansion of an update's variable at a place, which ranges over this. `NoPermit` exactly where its rows
 /// may not be so changed, or, where they stay, it is used and may not be read.
-fn text_in<B: Base>(
+fn expansion_in<B: Base>(
     alloc: Global,
     base: &mut B,
     who: Option<&Name>,
     u: &Update,
     place: u8,
     key: &RelKey,
-    found: &mut TextsFound,
-) -> Result<Text, CutFault>
+    found: &mut ExpansionsFound,
+) -> Result<Expansion, CutFault>
     requires small { (db : Db) → B.database base.old ≡ Some db → is_small_in db u.now (place, key.now) ≡ true }
     requires found { (db : Db) → B.database base.old ≡ Some db → IsFound db (who_of (option_map (λ n. n.now) who)) found.old }
-    ensures told { (db : Db) → B.database base.old ≡ Some db → IfOk result (λ text. text ≡ text_in db (who_of (option_map (λ n. n.now) who.entry)) u.now (place, key.now)) }
+    ensures known { (db : Db) → B.database base.old ≡ Some db → IfOk result (λ expansion. expansion ≡ expansion_in db (who_of (option_map (λ n. n.now) who.entry)) u.now (place, key.now)) }
     ensures permitted { (db : Db) → B.database base.old ≡ Some db → OnOk result (may_be_used db (who_of (option_map (λ n. n.now) who.entry)) u.now (place, key.now) ≡ true) }
-    ensures scoped { IfOk result (λ text. is_scoped text ≡ true) }
+    ensures scoped { IfOk result (λ expansion. is_scoped expansion ≡ true) }
     ensures found { (db : Db) → B.database base.old ≡ Some db → IsFound db (who_of (option_map (λ n. n.now) who.entry)) found.new }
     ensures kept { B.database base.new ≡ B.database base.old }
     ensures stays { (s : Db) → B.schema base.old ≡ Some s → B.schema base.new ≡ Some s }
@@ -98,26 +98,26 @@ fn text_in<B: Base>(
 {
     match changed_by(u, place) {
         Some(right) => changed_at(alloc, base, who, u, right, place, key, found),
-        None => read_text(alloc, base, who, &u.query, place, key, found),
+        None => read_expansion(alloc, base, who, &u.query, place, key, found),
     }
 }
 
-/// Puts the texts of an update's variables, which range over these, behind those that are there.
+/// Puts the expansions of an update's variables, which range over these, behind those that are there.
 fn put_each<B: Base>(
     alloc: Global,
     base: &mut B,
     who: Option<&Name>,
     u: &Update,
     keys: &[RelKey],
-    texts: &mut Vec<Text>,
-    found: &mut TextsFound,
+    expansions: &mut Vec<Expansion>,
+    found: &mut ExpansionsFound,
 ) -> Result<(), CutFault>
     requires listed { length keys.now ≤ 256 }
     requires small { (db : Db) → B.database base.old ≡ Some db → list_all (is_small_in db u.now) (enumerate_from 0 keys.now) ≡ true }
     requires found { (db : Db) → B.database base.old ≡ Some db → IsFound db (who_of (option_map (λ n. n.now) who)) found.old }
-    ensures told { (db : Db) → B.database base.old ≡ Some db → OnOk result (texts.new.items ≡ texts.old.items ++ map (text_in db (who_of (option_map (λ n. n.now) who.entry)) u.now) (enumerate_from 0 keys.now)) }
+    ensures known { (db : Db) → B.database base.old ≡ Some db → OnOk result (expansions.new.items ≡ expansions.old.items ++ map (expansion_in db (who_of (option_map (λ n. n.now) who.entry)) u.now) (enumerate_from 0 keys.now)) }
     ensures permitted { (db : Db) → B.database base.old ≡ Some db → OnOk result (list_all (may_be_used db (who_of (option_map (λ n. n.now) who.entry)) u.now) (enumerate_from 0 keys.now) ≡ true) }
-    ensures scoped { list_all is_scoped texts.old.items ≡ true → OnOk result (list_all is_scoped texts.new.items ≡ true) }
+    ensures scoped { list_all is_scoped expansions.old.items ≡ true → OnOk result (list_all is_scoped expansions.new.items ≡ true) }
     ensures found { (db : Db) → B.database base.old ≡ Some db → IsFound db (who_of (option_map (λ n. n.now) who.entry)) found.new }
     ensures kept { B.database base.new ≡ B.database base.old }
     ensures stays { (s : Db) → B.schema base.old ≡ Some s → B.schema base.new ≡ Some s }
@@ -127,29 +127,29 @@ fn put_each<B: Base>(
     let mut place: usize = 0;
     let mut rest = keys;
     'keys: while let Some((key, others)) = rest.split_first() {
-        let more = text_in(alloc, base, who, u, place as u8, key, found)?;
-        put_behind(texts, more)?;
+        let more = expansion_in(alloc, base, who, u, place as u8, key, found)?;
+        put_behind(expansions, more)?;
         place += 1;
         rest = others;
     }
     Ok(())
 }
 
-/// Puts the texts of an update's variables behind those that are there.
-fn put_texts<B: Base>(
+/// Puts the expansions of an update's variables behind those that are there.
+fn put_expansions<B: Base>(
     alloc: Global,
     base: &mut B,
     who: Option<&Name>,
     u: &Update,
-    texts: &mut Vec<Text>,
-    found: &mut TextsFound,
+    expansions: &mut Vec<Expansion>,
+    found: &mut ExpansionsFound,
 ) -> Result<(), CutFault>
     requires listed { (db : Db) → B.database base.old ≡ Some db → length (vars_of u.now.query) ≤ 256 }
     requires small { (db : Db) → B.database base.old ≡ Some db → list_all (is_small_in db u.now) (enumerate_from 0 (vars_of u.now.query)) ≡ true }
     requires found { (db : Db) → B.database base.old ≡ Some db → IsFound db (who_of (option_map (λ n. n.now) who)) found.old }
-    ensures told { (db : Db) → B.database base.old ≡ Some db → OnOk result (texts.new.items ≡ texts.old.items ++ map (text_in db (who_of (option_map (λ n. n.now) who.entry)) u.now) (enumerate_from 0 (vars_of u.now.query))) }
+    ensures known { (db : Db) → B.database base.old ≡ Some db → OnOk result (expansions.new.items ≡ expansions.old.items ++ map (expansion_in db (who_of (option_map (λ n. n.now) who.entry)) u.now) (enumerate_from 0 (vars_of u.now.query))) }
     ensures permitted { (db : Db) → B.database base.old ≡ Some db → OnOk result (list_all (may_be_used db (who_of (option_map (λ n. n.now) who.entry)) u.now) (enumerate_from 0 (vars_of u.now.query)) ≡ true) }
-    ensures scoped { list_all is_scoped texts.old.items ≡ true → OnOk result (list_all is_scoped texts.new.items ≡ true) }
+    ensures scoped { list_all is_scoped expansions.old.items ≡ true → OnOk result (list_all is_scoped expansions.new.items ≡ true) }
     ensures found { (db : Db) → B.database base.old ≡ Some db → IsFound db (who_of (option_map (λ n. n.now) who.entry)) found.new }
     ensures kept { B.database base.new ≡ B.database base.old }
     ensures stays { (s : Db) → B.schema base.old ≡ Some s → B.schema base.new ≡ Some s }
@@ -160,35 +160,35 @@ fn put_texts<B: Base>(
     if keys.len() > PLACES {
         return Err(CutFault::TooMany);
     }
-    put_each(alloc, base, who, u, keys, texts, found)
+    put_each(alloc, base, who, u, keys, expansions, found)
 }
 
-/// The place at which the variable's text begins, where the variables of the texts stand from this one on.
+/// The place at which the variable's text begins, where the variables of the expansions stand from this one on.
 #[tactic(auto, using(view_expand::proofs::Few::vars_before, crate::proofs::Places::place_next, crate::proofs::Places::place_first))]
-fn place_from(start: u8, texts: &[Text], var: u8) -> u8
-    requires { start + length (texts_vars texts.now) ≤ 255 }
-    ensures { result ≡ place_from start texts.now var }
+fn place_from(start: u8, expansions: &[Expansion], var: u8) -> u8
+    requires { start + length (expansions_vars expansions.now) ≤ 255 }
+    ensures { result ≡ place_from start expansions.now var }
 {
-    match texts.split_first() {
+    match expansions.split_first() {
         None => start,
-        Some((text, others)) => {
+        Some((expansion, others)) => {
             if var == 0 {
                 start
             } else {
-                place_from(start + text.vars.items().len() as u8, others, var - 1)
+                place_from(start + expansion.vars.items().len() as u8, others, var - 1)
             }
         }
     }
 }
 
-/// The place of the variable whose rows are replaced or deleted, once these texts are put in.
-fn put_place(texts: &[Text], u: &Update) -> u8
-    requires { length (texts_vars texts.now) ≤ 255 }
-    ensures { result ≡ put_place texts.now u.now }
+/// The place of the variable whose rows are replaced or deleted, once these expansions are put in.
+fn put_place(expansions: &[Expansion], u: &Update) -> u8
+    requires { length (expansions_vars expansions.now) ≤ 255 }
+    ensures { result ≡ put_place expansions.now u.now }
 {
     match u.op {
         UpdateOp::Append | UpdateOp::Into => u.old,
-        UpdateOp::Replace | UpdateOp::Delete => place_from(0, texts, u.old),
+        UpdateOp::Replace | UpdateOp::Delete => place_from(0, expansions, u.old),
     }
 }
 
@@ -199,10 +199,10 @@ fn put_new_cut<B: Base>(
     base: &mut B,
     who: Option<&Name>,
     u: &Update,
-    found: &mut TextsFound,
+    found: &mut ExpansionsFound,
 ) -> Result<QQual, CutFault>
     requires found { (db : Db) → B.database base.old ≡ Some db → IsFound db (who_of (option_map (λ n. n.now) who)) found.old }
-    ensures told { (db : Db) → B.database base.old ≡ Some db → IfOk result (λ q. q ≡ put_cut db (who_of (option_map (λ n. n.now) who.entry)) u.now u.now.op) }
+    ensures known { (db : Db) → B.database base.old ≡ Some db → IfOk result (λ q. q ≡ append_restriction db (who_of (option_map (λ n. n.now) who.entry)) u.now u.now.op) }
     ensures permitted { (db : Db) → B.database base.old ≡ Some db → OnOk result (u.now.op ≡ op.Append → permitted db (who_of (option_map (λ n. n.now) who.entry)) Append u.now.places u.now.rel ≡ true) }
     ensures found { (db : Db) → B.database base.old ≡ Some db → IsFound db (who_of (option_map (λ n. n.now) who.entry)) found.new }
     ensures kept { B.database base.new ≡ B.database base.old }
@@ -211,7 +211,7 @@ fn put_new_cut<B: Base>(
     ensures cause { HasCause (λ db var. IsRefusedAppend db (who_of (option_map (λ n. n.now) who.entry)) u.now var) (B.database base.old) (B.faults base.old) (B.faults base.new) result }
 {
     match u.op {
-        UpdateOp::Append => match appended_cut(alloc, base, who, u, found) {
+        UpdateOp::Append => match appended_restriction(alloc, base, who, u, found) {
             Ok(q) => Ok(q),
             Err(fault) => Err(fault_at(fault, NO_VARIABLE)),
         },
@@ -248,20 +248,20 @@ fn update_of(
     }
 }
 
-/// The update with these texts of its variables put in, where they have few variables.
-fn put_over_few<B: Base>(
+/// The update with these expansions of its variables put in, where they have few variables.
+fn expanded_over_few<B: Base>(
     alloc: Global,
     base: &mut B,
     who: Option<&Name>,
     u: &Update,
-    texts: &[Text],
-    found: &mut TextsFound,
+    expansions: &[Expansion],
+    found: &mut ExpansionsFound,
 ) -> Result<Update, CutFault>
     requires fit { (db : Db) → B.database base.old ≡ Some db → reads_fit (kept_or_viewed db) db u.now.query ≡ true }
-    requires scoped { list_all is_scoped texts.now ≡ true }
-    requires few { (db : Db) → B.database base.old ≡ Some db → length (texts_vars texts.now) ≤ 255 }
+    requires scoped { list_all is_scoped expansions.now ≡ true }
+    requires few { (db : Db) → B.database base.old ≡ Some db → length (expansions_vars expansions.now) ≤ 255 }
     requires found { (db : Db) → B.database base.old ≡ Some db → IsFound db (who_of (option_map (λ n. n.now) who)) found.old }
-    ensures told { (db : Db) → B.database base.old ≡ Some db → IfOk result (λ made. made ≡ record u.now { old = put_place texts.now u.now; query = put_over db (who_of (option_map (λ n. n.now) who.entry)) texts.now u.now.query; new_cut = put_cut db (who_of (option_map (λ n. n.now) who.entry)) u.now u.now.op }) }
+    ensures known { (db : Db) → B.database base.old ≡ Some db → IfOk result (λ made. made ≡ record u.now { old = put_place expansions.now u.now; query = expanded_over db (who_of (option_map (λ n. n.now) who.entry)) expansions.now u.now.query; new_cut = append_restriction db (who_of (option_map (λ n. n.now) who.entry)) u.now u.now.op }) }
     ensures permitted { (db : Db) → B.database base.old ≡ Some db → OnOk result (aggregates_permitted (readable db (who_of (option_map (λ n. n.now) who.entry))) u.now.query ≡ true) }
     ensures appended { (db : Db) → B.database base.old ≡ Some db → OnOk result (u.now.op ≡ op.Append → permitted db (who_of (option_map (λ n. n.now) who.entry)) Append u.now.places u.now.rel ≡ true) }
     ensures found { (db : Db) → B.database base.old ≡ Some db → IsFound db (who_of (option_map (λ n. n.now) who.entry)) found.new }
@@ -270,12 +270,12 @@ fn put_over_few<B: Base>(
     ensures asked { (b : B) → B.asked b base.old → B.asked b base.new }
     ensures cause { HasCause (λ db var. IsRefusedAppend db (who_of (option_map (λ n. n.now) who.entry)) u.now var ⊎ HasRefusedAggregate db (who_of (option_map (λ n. n.now) who.entry)) u.now.query var) (B.database base.old) (B.faults base.old) (B.faults base.new) result }
 {
-    if !are_few(texts, LAST_PLACE) {
+    if !are_few(expansions, LAST_PLACE) {
         return Err(CutFault::TooMany);
     }
-    let place = put_place(texts, u);
+    let place = put_place(expansions, u);
     match put_new_cut(alloc, base, who, u, found) {
-        Ok(new_cut) => match put_over(alloc, base, who, &u.query, texts, found) {
+        Ok(new_cut) => match expanded_over(alloc, base, who, &u.query, expansions, found) {
             Ok(query) => update_of(alloc, u, place, query, new_cut),
             Err(fault) => Err(fault),
         },
@@ -283,19 +283,19 @@ fn put_over_few<B: Base>(
     }
 }
 
-/// The update with the texts of its variables put in, and those that its aggregates are over. `NoPermit`
+/// The update with its variables expanded, and those that its aggregates are over. `NoPermit`
 /// exactly where the relation may not be so changed, or another variable that is used, or what an
 /// aggregate names, may not be read.
-pub(crate) fn put_in_update<B: Base>(
+pub(crate) fn expanded_update<B: Base>(
     alloc: Global,
     base: &mut B,
     who: Option<&Name>,
     u: &Update,
-    found: &mut TextsFound,
+    found: &mut ExpansionsFound,
 ) -> Result<Update, CutFault>
     requires fit { (db : Db) → B.database base.old ≡ Some db → update_fits (kept_or_viewed db) db u.now ≡ true }
     requires found { (db : Db) → B.database base.old ≡ Some db → IsFound db (who_of (option_map (λ n. n.now) who)) found.old }
-    ensures told { (db : Db) → B.database base.old ≡ Some db → IfOk result (λ made. made ≡ put_in_update db (who_of (option_map (λ n. n.now) who.entry)) u.now) }
+    ensures known { (db : Db) → B.database base.old ≡ Some db → IfOk result (λ made. made ≡ expanded_update db (who_of (option_map (λ n. n.now) who.entry)) u.now) }
     ensures permitted { (db : Db) → B.database base.old ≡ Some db → OnOk result (update_permitted db (who_of (option_map (λ n. n.now) who.entry)) u.now ≡ true) }
     ensures found { (db : Db) → B.database base.old ≡ Some db → IsFound db (who_of (option_map (λ n. n.now) who.entry)) found.new }
     ensures kept { B.database base.new ≡ B.database base.old }
@@ -303,9 +303,9 @@ pub(crate) fn put_in_update<B: Base>(
     ensures asked { (b : B) → B.asked b base.old → B.asked b base.new }
     ensures cause { HasCause (λ db var. (update_permitted db (who_of (option_map (λ n. n.now) who.entry)) u.now ≡ false) × IsRefusedOf db (who_of (option_map (λ n. n.now) who.entry)) u.now var) (B.database base.old) (B.faults base.old) (B.faults base.new) result }
 {
-    let mut texts = Vec::new(alloc);
-    match put_texts(alloc, base, who, u, &mut texts, found) {
-        Ok(()) => put_over_few(alloc, base, who, u, &texts, found),
+    let mut expansions = Vec::new(alloc);
+    match put_expansions(alloc, base, who, u, &mut expansions, found) {
+        Ok(()) => expanded_over_few(alloc, base, who, u, &expansions, found),
         Err(fault) => Err(fault),
     }
 }

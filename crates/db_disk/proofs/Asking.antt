@@ -6,7 +6,7 @@ use Rattle.calculus.specs.declared.query.RelKey.{RelKey}
 use Rattle.calculus.specs.Database.{Db, permits_on, rules_on}
 use Rattle.calculus.specs.Schema.{schema_of}
 use Rattle.schema_laws.proofs.Alike.{catalogue_alike, entry_alike}
-use Rattle.am_traits.specs.Told.{is_named_by_view, known_at, query_at}
+use Rattle.base_trait.specs.Known.{is_named_by_view, known_at, query_at}
 
 -- ---- what is the same of a schema
 

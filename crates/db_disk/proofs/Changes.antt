@@ -1,9 +1,9 @@
 -- What a change leaves on a disk.
 use Rattle.std.proofs.Common.{◌≡◌, ◌≢◌, ◌⊎◌, ◌↔◌, inl, inr, ⊎_elim, not, refl, sym, ap, subst, ◌∙◌, arith, ℕ, zero, suc, ◌<◌, IsTrue, Bool, true, false, List, [], ◌∷◌, length, ◌==◌, Option, Some, Result, Ok, Err, OnOk}
-use Rattle.am_traits.specs.Causes.{HasCause}
-use Rattle.am_traits.specs.declared.fault.BaseFault.{BaseFault}
-use Rattle.am_traits.specs.declared.fault.BaseFault.TheVariants as faults
-use Rattle.access_traits.specs.Causes.{HasFileCause}
+use Rattle.base_trait.specs.Causes.{HasCause}
+use Rattle.base_trait.specs.declared.fault.BaseFault.{BaseFault}
+use Rattle.base_trait.specs.declared.fault.BaseFault.TheVariants as faults
+use Rattle.am_traits.specs.Causes.{HasFileCause}
 use Rattle.calculus.specs.declared.change.DbChange.{DbChange}
 use Rattle.calculus.specs.declared.change.DbChange.TheVariants as change
 use Rattle.calculus.specs.declared.query.RelKey.{RelKey}
@@ -23,11 +23,11 @@ use Rattle.batch_file.specs.Faults.{FailsBy}
 use Rattle.batch_file.specs.Layout.{addr, first_byte, gate}
 use Rattle.batch_file.specs.OnDisk.{IsClosed, SameRedone}
 use Rattle.batch_file.specs.Redone.{kept, redone}
-use Rattle.batch_file.proofs.Lays.{kept_by, kept_not_batch, redone_shut}
+use Rattle.batch_file.proofs.Applies.{kept_by, kept_not_batch, redone_shut}
 use Rattle.batch_file.proofs.Opening.{redone_outside}
 use Rattle.batch_file.proofs.Outside.{outside_back}
 use Rattle.batch_store.specs.Run.{HasOnlyNow}
-use Rattle.batch_store.specs.Standing.{IsOneOf}
+use Rattle.batch_store.specs.Recovered.{IsOneOf}
 use Rattle.batch_store.specs.Store.{batch_of, disk_of, pages_of, waiting, CameOf}
 use Rattle.batch_store.specs.declared.store.BatchStore.{BatchStore}
 use Rattle.batch_store.proofs.Stands.{empty_so}
@@ -36,11 +36,11 @@ use Rattle.catalog.specs.Knows.{KnowsAfter, SameHead}
 use Rattle.catalog.specs.declared.catalog.Catalog.{Catalog}
 use Rattle.catalog_read.specs.Parts.{index_owners_agree}
 use Rattle.page_chain.specs.Lists.{◌>>=◌}
-use Rattle.stored_database.specs.Standing.{header_of, standing}
+use Rattle.stored_database.specs.Denoting.{header_of, denoted}
 use Rattle.stored_database.proofs.Exactly.{pages_stand_exactly}
 use Rattle.stored_database.proofs.Reading.{same_number}
 use Rattle.db_disk.specs.Answered.{of_restore}
-use Rattle.db_disk.specs.Held.{administrator, held, told_by, IsEither}
+use Rattle.db_disk.specs.Held.{administrator, held, database_by, IsEither}
 use Rattle.db_disk.proofs.Holding.{held_as}
 
 -- ---- a change that names no rows
@@ -86,10 +86,10 @@ pub same_administrator : (m n : Image) → SameHead m n → administrator n ≡ 
 unfolding administrator
 same_administrator m n same = ap (λ (o : Option (List ℕ)). o >>= header_of) (same (addr 0 0) refl)
 
--- the pages stand for the database after the change
-pub after_stands : (c : Catalog) (m : Image) (told : Option Image) (db : Db) (made : DbChange) → standing m ≡ Some db → IsDatabase db → IsDatabase (laid db made) → (after : KnowsAfter c m told db made)
-    → standing after.image ≡ Some (laid db made)
-after_stands c m told db made stands is_one is_later after =
+-- the pages denote the database after the change
+pub after_stands : (c : Catalog) (m : Image) (known : Option Image) (db : Db) (made : DbChange) → denoted m ≡ Some db → IsDatabase db → IsDatabase (laid db made) → (after : KnowsAfter c m known db made)
+    → denoted after.image ≡ Some (laid db made)
+after_stands c m known db made stands is_one is_later after =
     let h = (pages_stand_exactly m db is_one).0 stands in
     (pages_stand_exactly after.image (laid db made) is_later).1 record {
       head = h.head;
@@ -102,7 +102,7 @@ after_stands c m told db made stands is_one is_later after =
     }
 
 -- each image has one of the two
-pub either_of : (before after m : Image) (db later : Db) → standing before ≡ Some db → standing after ≡ Some later → index_owners_agree db ≡ true → index_owners_agree later ≡ true → IsOneOf before after m → IsEither db later m
+pub either_of : (before after m : Image) (db later : Db) → denoted before ≡ Some db → denoted after ≡ Some later → index_owners_agree db ≡ true → index_owners_agree later ≡ true → IsOneOf before after m → IsEither db later m
 either_of before after m db later stands then_ owned owned_later (inl is) = inl (held_as m before db is stands owned)
 either_of before after m db later stands then_ owned owned_later (inr is) = inr (held_as m after later is then_ owned_later)
 
@@ -123,33 +123,33 @@ pub finish_caused : {T U : Type 0} (pages : Option Image) (before now : ℕ) (fa
     → ((m : Image) → pages ≡ Some m → result ≡ Err restore.Disk) → HasFileCause {T = U} pages (λ m a. ⊥) before now (Err of)
 finish_caused {T} {U} pages before now fault result of is same by whole =
     subst (λ (f : BaseFault). HasFileCause {T = U} pages (λ m a. ⊥) before now (Err f)) (sym same)
-    (finish_one pages before now fault (subst (FailsBy {T = T} before now) is by) (λ m told. (let e : Err fault ≡ Err restore.Disk = sym is ∙ whole m told in cc e)))
+    (finish_one pages before now fault (subst (FailsBy {T = T} before now) is by) (λ m known. (let e : Err fault ≡ Err restore.Disk = sym is ∙ whole m known in cc e)))
 
 -- a call before it, that answered, left the count
-pub later_caused : {T : Type 0} (told : Option Db) (before mid now : ℕ) (result : Result T BaseFault) → mid ≡ before → HasCause told mid now result → HasCause told before now result
-later_caused told before mid now result calm has = subst (λ (n : ℕ). HasCause told n now result) calm has
+pub later_caused : {T : Type 0} (known : Option Db) (before mid now : ℕ) (result : Result T BaseFault) → mid ≡ before → HasCause known mid now result → HasCause known before now result
+later_caused known before mid now result calm has = subst (λ (n : ℕ). HasCause known n now result) calm has
 
--- and what is told
-pub cause_after : {T : Type 0} (told mid_told : Option Db) (before mid now : ℕ) (result : Result T BaseFault) → mid_told ≡ told → mid ≡ before → HasCause mid_told mid now result → HasCause told before now result
-cause_after told mid_told before mid now result same calm has = subst (λ (o : Option Db). HasCause o before now result) same (later_caused mid_told before mid now result calm has)
+-- and what is known
+pub cause_after : {T : Type 0} (known mid_known : Option Db) (before mid now : ℕ) (result : Result T BaseFault) → mid_known ≡ known → mid ≡ before → HasCause mid_known mid now result → HasCause known before now result
+cause_after known mid_known before mid now result same calm has = subst (λ (o : Option Db). HasCause o before now result) same (later_caused mid_known before mid now result calm has)
 
 some_or_none : (n : ℕ) → (n ≡ 0) ⊎ (0 < n)
 some_or_none zero = inl refl
 some_or_none (suc n) = inr (omega arith)
 
-module _ {D : Type 0} {g : Ghosts D} (s old new : BatchStore D g) (m : Image) (told : IsTrue g.tells) (only : HasOnlyNow g (disk_of s)) (came : CameOf s old)
+module _ {D : Type 0} {g : Ghosts D} (s old new : BatchStore D g) (m : Image) (known : IsTrue g.is_known) (only : HasOnlyNow g (disk_of s)) (came : CameOf s old)
     (closed : IsClosed (g.seen (disk_of s)) (g.touched (disk_of s))) (pages : pages_of old ≡ Some m) where
   -- nothing was put: what counts is what counted
   none_put : waiting old ≡ 0 → disk_of new ≡ disk_of old → (x : Image) → IsImage (g.seen (disk_of new)) (g.touched (disk_of new)) x → redone x ≡ Some m
   none_put none same x image =
-      let apart = came.apart told only in
+      let apart = came.apart known only in
       let here : IsImage (g.seen (disk_of old)) (g.touched (disk_of old)) x = subst (λ (d : D). IsImage (g.seen d) (g.touched d) x) same image in
       let back = outside_back g.seen g.touched g.clock g.left_since (disk_of s) (disk_of old) apart.change x here in
       let is_s : back.0 ≡ g.seen (disk_of s) = image_settled g.seen g.touched g.clock g.left_since (disk_of s) closed.settled back.0 back.1 in
       let shut : gate back.0 ≢ 1 = subst (λ (i : Image). gate i ≢ 1) (sym is_s) closed.shut in
       let same_kept : kept (g.seen (disk_of old)) ≡ kept (g.seen (disk_of s)) = kept_by _ _ (λ b k. apart.change.elsewhere b (kept_not_batch b k)) in
       redone_outside x back.0 shut back.2 ∙ ap redone is_s ∙ redone_shut (g.seen (disk_of s)) closed.shut
-      ∙ ap Some (sym same_kept ∙ empty_so g.tells (g.seen (disk_of old)) m (batch_of old) none pages)
+      ∙ ap Some (sym same_kept ∙ empty_so g.is_known (g.seen (disk_of old)) m (batch_of old) none pages)
 
   some_put : IsClosed (g.seen (disk_of new)) (g.touched (disk_of new)) → kept (g.seen (disk_of new)) ≡ m → (x : Image) → IsImage (g.seen (disk_of new)) (g.touched (disk_of new)) x → redone x ≡ Some m
   some_put later are x image =
@@ -172,10 +172,10 @@ module _ {S : Type 0} (seen : S → Image) (touched : S → Addr → Type 0) (cl
       let from = run.each (seen b) left in
       from.2 ∙ ap redone (image_settled seen touched clock left_since a closed.settled from.0 from.1)
 
--- what each image holds is told
-pub told_now : (tells : Bool) (m : Image) (db : Db) → IsTrue tells → held m ≡ Some db → told_by tells m ≡ Some db
-told_now true m db told is = is
-told_now false m db told is = absurd (cc told)
+-- what each image holds is known
+pub known_now : (is_known : Bool) (m : Image) (db : Db) → IsTrue is_known → held m ≡ Some db → database_by is_known m ≡ Some db
+known_now true m db known is = is
+known_now false m db known is = absurd (cc known)
 
 -- a finish that fails on a disk that tells failed by the disk
 pub finish_whole : {T : Type 0} {ok : T} (fault : RestoreFault) (result : Result T RestoreFault) → result ≡ Err fault → (result ≡ Err restore.Disk) ⊎ (result ≡ Ok ok) → result ≡ Err restore.Disk
@@ -194,9 +194,9 @@ pub held_settled : {D : Type 0} {g : Ghosts D} (s : BatchStore D g) (db : Db) �
 held_settled {D} {g} s db closed holds m image = ap held (image_settled g.seen g.touched g.clock g.left_since (disk_of s) closed.settled m image) ∙ holds
 
 -- a sync that fails behind a finish fails by the disk
-pub synced_caused : {T : Type 0} (pages : Option Image) (told : Option Db) (before mid now : ℕ) (result : Result T BaseFault) → mid ≡ before → HasCause told mid now result
+pub synced_caused : {T : Type 0} (pages : Option Image) (known : Option Db) (before mid now : ℕ) (result : Result T BaseFault) → mid ≡ before → HasCause known mid now result
     → ((m : Image) → pages ≡ Some m → (file page : ℕ) → result ≡ Err (faults.Damaged file page) → ⊥) → HasFileCause pages (λ m a. ⊥) before now result
-synced_caused pages told before mid now (Ok x) calm has none = record { later = omega (arith, calm, has.later); caused = has.caused ∙ calm }
-synced_caused pages told before mid now (Err faults.Disk) calm has none = record { later = omega (arith, calm, has.later); caused = omega (arith, calm, has.caused) }
-synced_caused pages told before mid now (Err (faults.Damaged file page)) calm has none = record { later = omega (arith, calm, has.later); caused = (λ m is. none m is file page refl, has.caused.1 ∙ calm) }
-synced_caused pages told before mid now (Err faults.OutOfMemory) calm has none = record { later = omega (arith, calm, has.later); caused = has.caused ∙ calm }
+synced_caused pages known before mid now (Ok x) calm has none = record { later = omega (arith, calm, has.later); caused = has.caused ∙ calm }
+synced_caused pages known before mid now (Err faults.Disk) calm has none = record { later = omega (arith, calm, has.later); caused = omega (arith, calm, has.caused) }
+synced_caused pages known before mid now (Err (faults.Damaged file page)) calm has none = record { later = omega (arith, calm, has.later); caused = (λ m is. none m is file page refl, has.caused.1 ∙ calm) }
+synced_caused pages known before mid now (Err faults.OutOfMemory) calm has none = record { later = omega (arith, calm, has.later); caused = has.caused ∙ calm }

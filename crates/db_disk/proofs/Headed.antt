@@ -7,7 +7,7 @@ use Rattle.disk_model.specs.Disk.{Image}
 use Rattle.batch_file.specs.Layout.{addr}
 use Rattle.page_chain.specs.Lists.{◌>>=◌, when}
 use Rattle.stored_database.specs.Names.{name_of}
-use Rattle.stored_database.specs.Standing.{header_bytes, header_of}
+use Rattle.stored_database.specs.Denoting.{header_bytes, header_of}
 use Rattle.db_disk.specs.Held.{administrator}
 
 named : (t : Bool) (name : List ℕ) → (if t then Some name else None) ≡ when t name

@@ -1,10 +1,10 @@
 -- Which page shows that a disk holds no database.
 use Rattle.std.proofs.Common.{◌≡◌, refl, sym, ap, subst, ◌∙◌, ℕ, ◌==◌, ◌&&◌, true, false, None, Result, Err, if◌then◌else◌}
 use Rattle.std.specs.Prelude.{is_some}
-use Rattle.am_traits.specs.declared.fault.BaseFault.{BaseFault}
-use Rattle.am_traits.specs.declared.fault.BaseFault.TheVariants as faults
+use Rattle.base_trait.specs.declared.fault.BaseFault.{BaseFault}
+use Rattle.base_trait.specs.declared.fault.BaseFault.TheVariants as faults
 use Rattle.disk_model.specs.Disk.{Image}
-use Rattle.stored_database.specs.Standing.{birth}
+use Rattle.stored_database.specs.Denoting.{birth}
 use Rattle.db_disk.specs.Held.{administrator, has_head, headless_page}
 use Rattle.db_disk.specs.Load.{as_base, base_fault, IsNoHead}
 use Rattle.db_disk.specs.declared.load.LoadFault.{LoadFault}

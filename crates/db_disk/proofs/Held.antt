@@ -10,8 +10,8 @@ use Rattle.page_cells.specs.Page.{slots}
 use Rattle.page_chain.specs.Lying.{lying_on, lying_in}
 use Rattle.page_chain.proofs.PageTest.{page_passes}
 use Rattle.stored_database.specs.Names.{name_bytes}
-use Rattle.stored_database.specs.Standing as standing
-use Rattle.stored_database.specs.Standing.{stored, empty_database, IsEmptyPage}
+use Rattle.stored_database.specs.Denoting as denoting
+use Rattle.stored_database.specs.Denoting.{stored, empty_database, IsEmptyPage}
 use Rattle.stored_database.proofs.Fresh.{fresh_pages_stand}
 use Rattle.stored_database.proofs.WhatStands.{shut_disks_hold}
 use Rattle.db_disk.specs.Created.{IsFresh, IsMaking, IsNewDatabase, UnbornOrHolds, header_bytes}
@@ -30,8 +30,8 @@ empty_page page fresh = record {
     none : (p : List ℕ) → slots p ≡ [] → lying_on 0 (Some p) ≡ []
     none p e = ap (lying_in 0 0) e
 
-pub same_header : (dba : List ℕ) → header_bytes dba ≡ standing.header_bytes dba
-unfolding standing.header_bytes name_bytes
+pub same_header : (dba : List ℕ) → header_bytes dba ≡ denoting.header_bytes dba
+unfolding denoting.header_bytes name_bytes
 same_header dba = refl
 
 -- what is new on a disk is what the disk holds

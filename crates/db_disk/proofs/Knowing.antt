@@ -28,7 +28,7 @@ use Rattle.catalog.proofs.Steps.{schema_again}
 use Rattle.catalog.specs.declared.catalog.Catalog.{Catalog}
 use Rattle.db_disk.specs.Held.{administrator, held}
 use Rattle.db_disk.specs.Known.{IsKnown, LiesFor, SameKnown, known_part, schema_known}
-use Rattle.db_disk.proofs.KnowsProp.{known}
+use Rattle.db_disk.proofs.KnowsProp.{untruncated}
 
 bare_part : (has : RelKey → Bool) (rs : List Relation) → map bare (map (λ r. elim (has r.info.key) [ true ↦ r | false ↦ bare r ]) rs) ≡ map bare rs
 bare_part has [] = refl
@@ -49,7 +49,7 @@ knows_schema c m db knows = ap schema_of knows.plain ∙ part_schema (is_in c.lo
 -- the schema that is known is that of the database that is held
 pub schema_held : (m : Image) (catalog : Option Catalog) (db : Db) → IsKnown m catalog → held m ≡ Some db → IsTrue (is_some (schema_known catalog)) → schema_known catalog ≡ Some (schema_of db)
 schema_held m None db is holds there = absurd (cc there)
-schema_held m (Some c) db is holds there = ap Some (knows_schema c (kept m) db (known (is.each c db refl holds)))
+schema_held m (Some c) db is holds there = ap Some (knows_schema c (kept m) db (untruncated (is.each c db refl holds)))
 
 abbrev Part : Type 0
 Part = Db × KeySet × FileTable × Ends
@@ -105,7 +105,7 @@ pub still_known : (m n : Image) (a b : Option Catalog) → n ≡ m → IsKnown m
 still_known m n a b image is same = subst (λ (m : Image). IsKnown m b) (sym image) record {
   each = λ c db is_c holds.
       let before = from_same a c (sym (ap (option_map known_part) is_c) ∙ same) in
-      ∣ same_knows before.0 c (kept m) db before.2 (known (is.each before.0 db before.1 holds)) ∣₁;
+      ∣ same_knows before.0 c (kept m) db before.2 (untruncated (is.each before.0 db before.1 holds)) ∣₁;
   lies = λ c is_c.
       let before = from_same a c (sym (ap (option_map known_part) is_c) ∙ same) in
       ∥∥₁_map (is.lies before.0 before.1) (λ l. same_lies before.0 c (kept m) before.2 l);

@@ -108,5 +108,5 @@ knows_prop c m db a b = λ i. record {
 }
 
 -- what is known truncated is known
-pub known : {c : Catalog} {m : Image} {db : Db} → ∥ Knows c m db ∥₁ → Knows c m db
-known {c} {m} {db} h = ∥∥₁_elim h (knows_prop c m db) (λ k. k)
+pub untruncated : {c : Catalog} {m : Image} {db : Db} → ∥ Knows c m db ∥₁ → Knows c m db
+untruncated {c} {m} {db} h = ∥∥₁_elim h (knows_prop c m db) (λ k. k)

@@ -8,7 +8,7 @@ use Rattle.calculus.specs.Schema.{schema_of}
 use Rattle.disk_model.specs.Disk.{Image, RisesUpTo}
 use Rattle.batch_file.specs.Layout.{gate}
 use Rattle.batch_file.specs.Redone.{kept, redone}
-use Rattle.batch_file.proofs.Lays.{redone_shut}
+use Rattle.batch_file.proofs.Applies.{redone_shut}
 use Rattle.page_chain.specs.Pages.{pages_of}
 use Rattle.plain_base.specs.Shown.{database_of}
 use Rattle.stored_database.specs.Catalogue.{catalogue_in}
@@ -23,7 +23,7 @@ use Rattle.catalog.proofs.Rises.{rises_less, then_rises}
 use Rattle.db_disk.specs.Held.{held}
 use Rattle.db_disk.specs.Known.{IsKnown, SameKnown, known_part, schema_known}
 use Rattle.db_disk.specs.Reads.{OpensBy, files_in, rows_in}
-use Rattle.db_disk.proofs.KnowsProp.{known}
+use Rattle.db_disk.proofs.KnowsProp.{untruncated}
 
 -- ---- an opening
 
@@ -78,7 +78,7 @@ still_there a b (Err e) same there = tt
 pub files_held : (m : Image) (catalog : Option Catalog) (db : Db) → IsKnown m catalog → held m ≡ Some db → IsTrue (is_some (schema_known catalog))
     → catalogue_in (pages_of (kept m)) ≡ Some (printed db (files_in catalog))
 files_held m None db is holds there = absurd (cc there)
-files_held m (Some c) db is holds there = (known (is.each c db refl holds)).catalogue
+files_held m (Some c) db is holds there = (untruncated (is.each c db refl holds)).catalogue
 
 -- where there is none no schema is known
 pub none_there : (catalog : Option Catalog) (b : Bool) (s : Db) (P : Type 0) → b ≡ is_some catalog → b ≡ false → schema_known catalog ≡ Some s → P
@@ -87,7 +87,7 @@ none_there (Some c) b s P e off is = let bad : true ≡ false = sym e ∙ off in
 
 -- rows that are in memory stay there where the catalogue stays wherever a schema is known
 pub rows_stay : (a b : Option Catalog) (key : RelKey) → ((s : Db) → schema_known a ≡ Some s → b ≡ a) → rows_in a key ≡ true → rows_in b key ≡ true
-rows_stay a b key same is = rows_of_schema a key (rows_in b key ≡ true) is (λ s known. ap (λ x. rows_in x key) (same s known) ∙ is)
+rows_stay a b key same is = rows_of_schema a key (rows_in b key ≡ true) is (λ s schema. ap (λ x. rows_in x key) (same s schema) ∙ is)
 
 -- where there is a catalogue a schema is known
 pub some_schema : (catalog : Option Catalog) → IsTrue (is_some catalog) → IsTrue (is_some (schema_known catalog))

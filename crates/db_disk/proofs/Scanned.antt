@@ -10,8 +10,8 @@ use Rattle.calculus.specs.IsDatabase.{IsDatabase, row_fits}
 use Rattle.calculus.specs.Rows.{Row}
 use Rattle.calculus.specs.Schema.{schema_of}
 use Rattle.calculus.specs.Stored.{attrs_at}
-use Rattle.am_traits.specs.Scans.{Gives}
-use Rattle.am_traits.specs.declared.fault.BaseFault.{BaseFault}
+use Rattle.base_trait.specs.Scans.{Gives}
+use Rattle.base_trait.specs.declared.fault.BaseFault.{BaseFault}
 use Rattle.plain_base.specs.Places.{rows_from}
 use Rattle.plain_base.specs.Shown.{database_of}
 use Rattle.plain_base.proofs.Fitting.{scan_fits as given_fits}
@@ -26,10 +26,10 @@ database_fits : (db : Db) → IsDatabase db → (key : RelKey) (probe : Probe) (
 database_fits db is key probe before now (Err fault) there gives = tt
 database_fits db is key probe before now (Ok answer) there gives = given_fits db db db key probe before now answer refl is gives refl there
 
--- of a database that is told
-pub told_fits : (told : Option Db) (db : Db) (key : RelKey) (probe : Probe) (before now : Place) (result : Result (Option Row) BaseFault) → IsDatabase db → told ≡ Some db
-    → Gives probe (rows_left told key) before now result → is_relation db key ≡ true → IfOk result (λ row. ForSome row (λ r. row_fits (attrs_at db key) r ≡ true))
-told_fits told db key probe before now result is_one is gives there =
+-- of a database that is known
+pub known_fits : (known : Option Db) (db : Db) (key : RelKey) (probe : Probe) (before now : Place) (result : Result (Option Row) BaseFault) → IsDatabase db → known ≡ Some db
+    → Gives probe (rows_left known key) before now result → is_relation db key ≡ true → IfOk result (λ row. ForSome row (λ r. row_fits (attrs_at db key) r ≡ true))
+known_fits known db key probe before now result is_one is gives there =
     database_fits db is_one key probe before now result there (subst (λ (o : Option Db). Gives probe (rows_left o key) before now result) is gives)
 
 -- and of one in memory, by its schema

@@ -5,7 +5,7 @@ use Rattle.disk_model.specs.declared.disk.Addr.{Addr}
 use Rattle.batch_file.specs.Layout.{addr, first_byte, gate}
 use Rattle.page_cells.specs.Page.{IsPage, slots, next_page}
 use Rattle.page_cells.specs.RowBytes.{filled}
-use Rattle.stored_database.specs.Standing.{stored, empty_database}
+use Rattle.stored_database.specs.Denoting.{stored, empty_database}
 
 -- what each header begins with: `INGRES7` and a blank, and the form 1 in two bytes
 abbrev pub mark : List ℕ

@@ -1,7 +1,7 @@
 -- What says that pages hold a database.
 use Rattle.std.specs.Prelude.{◌≡◌, ◌==◌, true, false, Some, None}
 use Rattle.disk_model.specs.Disk.{Image}
-use Rattle.stored_database.specs.Standing.{birth}
+use Rattle.stored_database.specs.Denoting.{birth}
 use Rattle.db_disk.specs.Held.{administrator}
 use Rattle.db_disk.specs.declared.head.Head.{Head}
 use Rattle.db_disk.specs.declared.head.Head.TheVariants.{Of, NoHeader, Unborn}

@@ -10,7 +10,7 @@ use Rattle.batch_store.specs.Store.{disk_of, is_due, waiting}
 use Rattle.batch_store.specs.declared.store.BatchStore.{BatchStore}
 use Rattle.page_chain.specs.Lists.{◌>>=◌, when}
 use Rattle.catalog_read.specs.Parts.{index_owners_agree}
-use Rattle.stored_database.specs.Standing.{birth, header_of, stored}
+use Rattle.stored_database.specs.Denoting.{birth, header_of, stored}
 
 -- the database that a disk holds, where each of its indexes has the owner of its relation
 unfoldable pub held : Image → Option Db
@@ -18,9 +18,9 @@ held m = do
   db ← stored m
   when (index_owners_agree db) db
 
--- what a disk holds, where it tells that
-abbrev pub told_by : Bool → Image → Option Db
-told_by tells m = if tells then held m else None
+-- what a disk holds, where its content is known
+abbrev pub database_by : Bool → Image → Option Db
+database_by is_known m = if is_known then held m else None
 
 -- an image holds what some image of the disk held then
 abbrev pub SameHeld : Image → (Addr → Type 0) → Image → Type 0
@@ -49,12 +49,12 @@ abbrev pub headless_page : Image → ℕ
 headless_page m = if birth m == 1 then 0 else 1
 
 module _ {D : Type 0} {g : Ghosts D} where
-  -- the database on the disk below a store, where it is told
+  -- the database on the disk below a store, where it is known
   abbrev pub database_in : BatchStore D g → Option Db
-  database_in s = told_by g.tells (g.seen (disk_of s))
+  database_in s = database_by g.is_known (g.seen (disk_of s))
 
   -- Nothing waits and nothing is touched, and no restore is due.
   pub record IsReady (s : BatchStore D g) : Type 0 where
     pub calm : is_due s ≡ false
     pub empty : waiting s ≡ 0
-    pub closed : IsTrue g.tells → IsClosed (g.seen (disk_of s)) (g.touched (disk_of s))
+    pub closed : IsTrue g.is_known → IsClosed (g.seen (disk_of s)) (g.touched (disk_of s))

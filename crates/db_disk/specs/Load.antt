@@ -3,16 +3,16 @@ use Rattle.std.specs.Prelude.{◌≡◌, true, Some, Result, Ok, Err}
 use Rattle.calculus.specs.Database.{Db}
 use Rattle.disk_model.specs.Disk.{Image}
 use Rattle.disk_model.specs.declared.disk.Addr.{Addr}
-use Rattle.am_traits.specs.declared.fault.BaseFault.{BaseFault}
-use Rattle.am_traits.specs.declared.fault.BaseFault.TheVariants as faults
+use Rattle.base_trait.specs.declared.fault.BaseFault.{BaseFault}
+use Rattle.base_trait.specs.declared.fault.BaseFault.TheVariants as faults
 use Rattle.catalog_read.specs.Parts.{index_owners_agree}
-use Rattle.stored_database.specs.Standing.{standing}
+use Rattle.stored_database.specs.Denoting.{denoted}
 use Rattle.db_disk.specs.declared.load.LoadFault.{LoadFault}
 use Rattle.db_disk.specs.declared.load.LoadFault.TheVariants.{NoHead, Base}
 
--- the pages stand for no database in which each index has the owner of its relation
-abbrev pub NoneStands : Image → Addr → Type 0
-NoneStands m a = (db : Db) → standing m ≡ Some db → index_owners_agree db ≡ true → ⊥
+-- the pages denote no database in which each index has the owner of its relation
+abbrev pub NoneDenoted : Image → Addr → Type 0
+NoneDenoted m a = (db : Db) → denoted m ≡ Some db → index_owners_agree db ≡ true → ⊥
 
 -- the fault of a base
 abbrev pub base_fault : LoadFault → BaseFault

@@ -1,8 +1,8 @@
 -- When a database isn't opened.
 use Rattle.std.specs.Prelude.{◌≡◌, ℕ, ◌≤◌, Option, None, Result, Ok, Err}
 use Rattle.calculus.specs.Database.{Db}
-use Rattle.am_traits.specs.Causes.{MayCome}
-use Rattle.am_traits.specs.declared.fault.BaseFault.TheVariants as faults
+use Rattle.base_trait.specs.Causes.{MayCome}
+use Rattle.base_trait.specs.declared.fault.BaseFault.TheVariants as faults
 use Rattle.disk_model.specs.declared.disk.Disk.{Ghosts}
 use Rattle.db_disk.specs.Shown.{disk_in}
 use Rattle.db_disk.specs.declared.base.DbDisk.{DbDisk}
@@ -17,10 +17,10 @@ abbrev pub open_fault : LoadFault → OpenFault
 open_fault (load.NoHead page) = NotADatabase
 open_fault (load.Base fault) = Base fault
 
--- this fault of an opening may come: of no database where none is told and the count stayed, and of a base as ever
+-- this fault of an opening may come: of no database where none is known and the count stayed, and of a base as ever
 abbrev pub MayRefuse : Option Db → ℕ → ℕ → OpenFault → Type 0
-MayRefuse told before now NotADatabase = (told ≡ None) × (now ≡ before)
-MayRefuse told before now (Base fault) = MayCome told before now fault
+MayRefuse known before now NotADatabase = (known ≡ None) × (now ≡ before)
+MayRefuse known before now (Base fault) = MayCome known before now fault
 
 -- no database, or a fault of the disk or want of memory that came first
 abbrev pub RefusedBy : OpenFault → Type 0
@@ -37,13 +37,13 @@ module _ {D : Type 0} {g : Ghosts D} where
 
   -- an answer where the count stayed, or a fault that may come
   abbrev pub IsOpenCaused : Option Db → ℕ → ℕ → Result (DbDisk D g) (Unopened D) → Type 0
-  IsOpenCaused told before now (Ok d) = now ≡ before
-  IsOpenCaused told before now (Err u) = MayRefuse told before now u.fault
+  IsOpenCaused known before now (Ok d) = now ≡ before
+  IsOpenCaused known before now (Err u) = MayRefuse known before now u.fault
 
   -- The count of faults never falls, an answer comes only where it stayed, and a fault only where it may.
-  pub record HasOpenCause (told : Option Db) (before now : ℕ) (result : Result (DbDisk D g) (Unopened D)) : Type 0 where
+  pub record HasOpenCause (known : Option Db) (before now : ℕ) (result : Result (DbDisk D g) (Unopened D)) : Type 0 where
     pub later : before ≤ now
-    pub caused : IsOpenCaused told before now result
+    pub caused : IsOpenCaused known before now result
 
   -- it is no database
   abbrev pub IsNot : Result (DbDisk D g) (Unopened D) → Type 0

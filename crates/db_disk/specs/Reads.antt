@@ -43,13 +43,13 @@ module _ {D : Type 0} {g : Ghosts D} where
   abbrev pub pages_known : DbDisk D g → RelKey → ℕ
   pages_known d key = (files_known d).used key
 
-  -- the rows of what stands under a key are in memory, whatever the disk tells
+  -- the rows of what stands under a key are in memory, whatever is known of the disk's content
   abbrev pub rows_in_memory : DbDisk D g → RelKey → Bool
   rows_in_memory d key = rows_in d.catalog key
 
-  -- a call that needs the catalogues reads at most so many pages for them: none where they are in memory, else, where the disk tells, those of an opening
+  -- a call that needs the catalogues reads at most so many pages for them: none where they are in memory, else, where the disk's content is known, those of an opening
   abbrev pub OpensWith : DbDisk D g → ℕ → Type 0
-  OpensWith d n = IsTrue (is_some (schema_in d)) ⊎ (IsTrue g.tells × OpensBy (g.seen (disk_in d)) n)
+  OpensWith d n = IsTrue (is_some (schema_in d)) ⊎ (IsTrue g.is_known × OpensBy (g.seen (disk_in d)) n)
 
   -- how many pages a scan of what stands under a key still reads, from any place on: those of its file, or none where its rows are in memory
   abbrev pub pages_unread : DbDisk D g → RelKey → Place → ℕ

@@ -2,13 +2,13 @@
 
 ghost use Rattle.std.specs.Prelude.{refl, true};
 ghost use Rattle.std.proofs.Common.{ap};
-ghost use Rattle.am_traits.proofs.Crashes.{asked_itself};
-ghost use Rattle.db_disk.specs.Laws.{lawful_known, left_counts, own_known, scanned_told, unread_at_most};
+ghost use Rattle.base_trait.proofs.Crashes.{asked_itself};
+ghost use Rattle.db_disk.specs.Laws.{lawful_known, left_counts, own_known, scanned_known, unread_at_most};
 ghost use Rattle.db_disk.specs.Reads.{pages_known, pages_unread, rows_in_memory, OpensWith};
 ghost use Rattle.db_disk.specs.Shown.{clock_in, db_of, disk_in, is_restored, known_in, left_in, left_of, rows_left, schema_in, AskedOf};
 
 use crate::DbDisk;
-use am_traits::{Base, BaseFault};
+use base_trait::{Base, BaseFault};
 use calculus::{DbChange, Name, Permit, Place, Probe, Query, RelInfo, RelKey, Row, Rule};
 use disk_model::Disk;
 use std::alloc::Global;
@@ -40,13 +40,13 @@ impl<D: Disk> Base for DbDisk<D> {
 
     ghost left = { left_of };
 
-    ghost lawful = { λ d s is. lawful_known D.tells (D.seen (disk_in d)) d.catalog s is };
+    ghost lawful = { λ d s is. lawful_known D.is_known (D.seen (disk_in d)) d.catalog s is };
 
     ghost own = { λ d db is. own_known (db_of d) (schema_in d) db is };
 
-    ghost scanned = { λ d db key is. scanned_told D.tells (D.seen (disk_in d)) db key is };
+    ghost scanned = { λ d db key is. scanned_known D.is_known (D.seen (disk_in d)) db key is };
 
-    ghost counts_now = { λ d t o le left. left_counts D.tells D.seen D.touched D.clock D.left_since (disk_in d) t o left };
+    ghost counts_now = { λ d t o le left. left_counts D.is_known D.seen D.touched D.clock D.left_since (disk_in d) t o left };
 
     ghost whole = { λ d key at. unread_at_most (rows_in_memory d key) (pages_known d key) };
 

@@ -5,8 +5,8 @@ ghost use Rattle.calculus.specs.Change.{laid};
 ghost use Rattle.calculus.specs.Database.{Db};
 
 use crate::DbDisk;
-use crate::changing::lay_known;
-use am_traits::BaseFault;
+use crate::page_changes::apply_known;
+use base_trait::BaseFault;
 use calculus::DbChange;
 use catalog::SpotTable;
 use disk_model::Disk;
@@ -30,13 +30,13 @@ impl<D: Disk> DbDisk<D> {
     ghost use Rattle.std.specs.Prelude.{◌⊎◌, IsTrue, Some, None, OnOk, OnErr, IsErrOf, is_some};
     ghost use Rattle.calculus.specs.Change.{IsLawful};
     ghost use Rattle.calculus.specs.Schema.{schema_of};
-    ghost use Rattle.am_traits.specs.Causes.{HasCause};
+    ghost use Rattle.base_trait.specs.Causes.{HasCause};
     ghost use Rattle.disk_model.specs.Disk.{Image, IsImage, LeavesOnly};
     ghost use Rattle.db_disk.specs.Held.{held, HeldOr, IsEither};
     ghost use Rattle.db_disk.specs.Shown.{db_of, disk_in, is_restored, page_kept, schema_in};
 
-    /// Lays a lawful change on a database that is open.
-    fn lay_open(&mut self, alloc: Global, change: &DbChange) -> Result<(), BaseFault>
+    /// Applies a lawful change on a database that is open.
+    fn apply_open(&mut self, alloc: Global, change: &DbChange) -> Result<(), BaseFault>
         requires there { IsTrue (is_some (schema_in self.old)) }
         requires lawful { (db : Db) → db_of self.old ≡ Some db → IsLawful db change.now }
         ensures crash { (db : Db) → db_of self.old ≡ Some db
@@ -48,7 +48,7 @@ impl<D: Disk> DbDisk<D> {
         ensures no_memory { IsErrOf result BaseFault.OutOfMemory → db_of self.new ≡ db_of self.old }
         ensures cause { HasCause (db_of self.old) (D.faults (disk_in self.old)) (D.faults (disk_in self.new)) result }
     {
-        let done = lay_known(
+        let done = apply_known(
             alloc,
             &mut self.store,
             &mut self.catalog,
@@ -66,13 +66,13 @@ impl<D: Disk> DbDisk<D> {
         }
     }
 
-    /// Lays a lawful change: all of it or nothing. Once it has answered Ok the change is durable. After
+    /// Applies a lawful change: all of it or nothing. Once it has answered Ok the change is durable. After
     /// want of memory the database is as before. Where a crash or a fault of the disk comes in between,
     /// the disk holds the database of before or of after. What is known in memory is kept; after an error
     /// it is read anew at the next call.
     pub fn apply(&mut self, alloc: Global, change: &DbChange) -> Result<(), BaseFault>
         requires { (db : Db) → db_of self.old ≡ Some db → IsLawful db change.now }
-        ensures told { (db : Db) → db_of self.old ≡ Some db → OnOk result (db_of self.new ≡ Some (laid db change.now)) }
+        ensures known { (db : Db) → db_of self.old ≡ Some db → OnOk result (db_of self.new ≡ Some (laid db change.now)) }
         // A crash at any moment leaves what it might leave at the start, by what the image holds, or the database of after.
         ensures crash { (db : Db) → db_of self.old ≡ Some db
             → LeavesOnly D.clock D.left_since (disk_in self.old) (disk_in self.new)
@@ -91,7 +91,7 @@ impl<D: Disk> DbDisk<D> {
         if names_nothing(change) {
             return Ok(());
         }
-        self.lay_open(alloc, change)
+        self.apply_open(alloc, change)
     }
 
     /// Forgets what was read of the disk: the catalogue, where rows lay, and the page that was read last. So

@@ -3,11 +3,11 @@
 ghost use Rattle.std.specs.Prelude.{◌≡◌, Some, IfOk, IsTrue, is_some, length};
 ghost use Rattle.calculus.specs.Database.{Db, entries, permits_on, rules_on};
 ghost use Rattle.calculus.specs.Finding.{found};
-ghost use Rattle.am_traits.specs.Told.{is_named_by_view, known_at, query_at};
+ghost use Rattle.base_trait.specs.Known.{is_named_by_view, known_at, query_at};
 ghost use Rattle.db_disk.specs.Answered.{IsWant};
 ghost use Rattle.db_disk.specs.Known.{SameKnown, schema_known};
 
-use am_traits::{Base, BaseFault};
+use base_trait::{Base, BaseFault};
 use calculus::{Name, Permit, Query, RelInfo, RelKey, Rule};
 use catalog::Catalog;
 use std::alloc::Global;
@@ -16,12 +16,12 @@ use std::alloc::Global;
 #[tactic(auto, using(crate::proofs::Causes::plain_want))]
 pub(crate) fn dba(catalog: &mut Option<Catalog>, alloc: Global) -> Result<Name, BaseFault>
     requires { IsTrue (is_some catalog.old) }
-    ensures told { (s : Db) → schema_known catalog.new ≡ Some s → IfOk result (λ name. name ≡ s.dba) }
+    ensures known { (s : Db) → schema_known catalog.new ≡ Some s → IfOk result (λ name. name ≡ s.dba) }
     ensures same { SameKnown catalog.old catalog.new }
     ensures want { IsWant result }
 {
     match catalog {
-        Some(known) => known.plain.dba(alloc),
+        Some(cached) => cached.plain.dba(alloc),
         None => unreachable!(),
     }
 }
@@ -30,12 +30,12 @@ pub(crate) fn dba(catalog: &mut Option<Catalog>, alloc: Global) -> Result<Name, 
 #[tactic(auto, using(crate::proofs::Causes::plain_want))]
 pub(crate) fn count(catalog: &mut Option<Catalog>) -> Result<u32, BaseFault>
     requires { IsTrue (is_some catalog.old) }
-    ensures told { (s : Db) → schema_known catalog.new ≡ Some s → IfOk result (λ n. n ≡ length (entries s)) }
+    ensures known { (s : Db) → schema_known catalog.new ≡ Some s → IfOk result (λ n. n ≡ length (entries s)) }
     ensures same { SameKnown catalog.old catalog.new }
     ensures want { IsWant result }
 {
     match catalog {
-        Some(known) => known.plain.count(),
+        Some(cached) => cached.plain.count(),
         None => unreachable!(),
     }
 }
@@ -49,12 +49,12 @@ pub(crate) fn find(
     user: &Name,
 ) -> Result<Option<RelInfo>, BaseFault>
     requires { IsTrue (is_some catalog.old) }
-    ensures told { (s : Db) → schema_known catalog.new ≡ Some s → IfOk result (λ info. info ≡ found s user.now name.now) }
+    ensures known { (s : Db) → schema_known catalog.new ≡ Some s → IfOk result (λ info. info ≡ found s user.now name.now) }
     ensures same { SameKnown catalog.old catalog.new }
     ensures want { IsWant result }
 {
     match catalog {
-        Some(known) => known.plain.find(alloc, name, user),
+        Some(cached) => cached.plain.find(alloc, name, user),
         None => unreachable!(),
     }
 }
@@ -67,12 +67,12 @@ pub(crate) fn info(
     key: &RelKey,
 ) -> Result<Option<RelInfo>, BaseFault>
     requires { IsTrue (is_some catalog.old) }
-    ensures told { (s : Db) → schema_known catalog.new ≡ Some s → IfOk result (λ info. info ≡ known_at s key.now) }
+    ensures known { (s : Db) → schema_known catalog.new ≡ Some s → IfOk result (λ info. info ≡ known_at s key.now) }
     ensures same { SameKnown catalog.old catalog.new }
     ensures want { IsWant result }
 {
     match catalog {
-        Some(known) => known.plain.info(alloc, key),
+        Some(cached) => cached.plain.info(alloc, key),
         None => unreachable!(),
     }
 }
@@ -85,12 +85,12 @@ pub(crate) fn view(
     key: &RelKey,
 ) -> Result<Option<Query>, BaseFault>
     requires { IsTrue (is_some catalog.old) }
-    ensures told { (s : Db) → schema_known catalog.new ≡ Some s → IfOk result (λ q. q ≡ query_at s key.now) }
+    ensures known { (s : Db) → schema_known catalog.new ≡ Some s → IfOk result (λ q. q ≡ query_at s key.now) }
     ensures same { SameKnown catalog.old catalog.new }
     ensures want { IsWant result }
 {
     match catalog {
-        Some(known) => known.plain.view(alloc, key),
+        Some(cached) => cached.plain.view(alloc, key),
         None => unreachable!(),
     }
 }
@@ -103,12 +103,12 @@ pub(crate) fn rules(
     key: &RelKey,
 ) -> Result<Vec<Rule>, BaseFault>
     requires { IsTrue (is_some catalog.old) }
-    ensures told { (s : Db) → schema_known catalog.new ≡ Some s → IfOk result (λ rs. rs.items ≡ rules_on s key.now) }
+    ensures known { (s : Db) → schema_known catalog.new ≡ Some s → IfOk result (λ rs. rs.items ≡ rules_on s key.now) }
     ensures same { SameKnown catalog.old catalog.new }
     ensures want { IsWant result }
 {
     match catalog {
-        Some(known) => known.plain.rules(alloc, key),
+        Some(cached) => cached.plain.rules(alloc, key),
         None => unreachable!(),
     }
 }
@@ -121,12 +121,12 @@ pub(crate) fn permits(
     key: &RelKey,
 ) -> Result<Vec<Permit>, BaseFault>
     requires { IsTrue (is_some catalog.old) }
-    ensures told { (s : Db) → schema_known catalog.new ≡ Some s → IfOk result (λ ps. ps.items ≡ permits_on s key.now) }
+    ensures known { (s : Db) → schema_known catalog.new ≡ Some s → IfOk result (λ ps. ps.items ≡ permits_on s key.now) }
     ensures same { SameKnown catalog.old catalog.new }
     ensures want { IsWant result }
 {
     match catalog {
-        Some(known) => known.plain.permits(alloc, key),
+        Some(cached) => cached.plain.permits(alloc, key),
         None => unreachable!(),
     }
 }
@@ -140,12 +140,12 @@ pub(crate) fn named_by_view(
     but: &[RelKey],
 ) -> Result<bool, BaseFault>
     requires { IsTrue (is_some catalog.old) }
-    ensures told { (s : Db) → schema_known catalog.new ≡ Some s → IfOk result (λ b. b ≡ is_named_by_view s but.now key.now) }
+    ensures known { (s : Db) → schema_known catalog.new ≡ Some s → IfOk result (λ b. b ≡ is_named_by_view s but.now key.now) }
     ensures same { SameKnown catalog.old catalog.new }
     ensures want { IsWant result }
 {
     match catalog {
-        Some(known) => known.plain.named_by_view(alloc, key, but),
+        Some(cached) => cached.plain.named_by_view(alloc, key, but),
         None => unreachable!(),
     }
 }

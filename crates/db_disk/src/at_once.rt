@@ -3,13 +3,13 @@
 ghost use Rattle.std.specs.Prelude.{◌≡◌, IsTrue, Some, IfOk, false};
 ghost use Rattle.disk_model.specs.Disk.{Image, LeavesOnly};
 ghost use Rattle.batch_file.specs.Redone.{redone};
-ghost use Rattle.db_disk.specs.Held.{has_head, told_by, SameHeld};
+ghost use Rattle.db_disk.specs.Held.{has_head, database_by, SameHeld};
 ghost use Rattle.db_disk.specs.Opened.{disk_after, HasOpenCause, IsNot, IsRefused, open_fault};
 ghost use Rattle.db_disk.specs.Shown.{db_of};
 
 use crate::DbDisk;
 use crate::load::LoadFault;
-use am_traits::BaseFault;
+use base_trait::BaseFault;
 use disk_model::Disk;
 use std::alloc::Global;
 
@@ -50,12 +50,12 @@ impl<D: Disk> DbDisk<D> {
     /// Opens the database on a disk: it restores the disk, and reads the header, the birth byte and the
     /// catalogues, each page once. `NotADatabase` where the header isn't of its form or no database was born.
     pub fn open_db(alloc: Global, disk: D) -> Result<DbDisk<D>, Unopened<D>>
-        ensures told { IfOk result (λ d. db_of d ≡ told_by D.tells (D.seen disk)) }
-        ensures kept { told_by D.tells (D.seen (disk_after result)) ≡ told_by D.tells (D.seen disk) }
-        ensures not_one { IsTrue D.tells → (m : Image) → redone (D.seen disk) ≡ Some m → IsNot result → has_head m ≡ false }
-        ensures refused { IsTrue D.tells → (m : Image) → redone (D.seen disk) ≡ Some m → has_head m ≡ false → IsRefused result }
-        ensures crash { IsTrue D.tells → LeavesOnly D.clock D.left_since disk (disk_after result) (SameHeld (D.seen disk) (D.touched disk)) }
-        ensures cause { HasOpenCause (told_by D.tells (D.seen disk)) (D.faults disk) (D.faults (disk_after result)) result }
+        ensures known { IfOk result (λ d. db_of d ≡ database_by D.is_known (D.seen disk)) }
+        ensures kept { database_by D.is_known (D.seen (disk_after result)) ≡ database_by D.is_known (D.seen disk) }
+        ensures not_one { IsTrue D.is_known → (m : Image) → redone (D.seen disk) ≡ Some m → IsNot result → has_head m ≡ false }
+        ensures refused { IsTrue D.is_known → (m : Image) → redone (D.seen disk) ≡ Some m → has_head m ≡ false → IsRefused result }
+        ensures crash { IsTrue D.is_known → LeavesOnly D.clock D.left_since disk (disk_after result) (SameHeld (D.seen disk) (D.touched disk)) }
+        ensures cause { HasOpenCause (database_by D.is_known (D.seen disk)) (D.faults disk) (D.faults (disk_after result)) result }
     {
         let mut base = DbDisk::later(alloc, disk);
         match base.start(alloc) {

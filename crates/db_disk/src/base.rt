@@ -25,7 +25,7 @@ pub struct DbDisk<D: Disk> {
     pub(crate) alloc: Global,
     ghost ready: { is_open ≡ true → IsReady store } by { Prim.hlevel props },
     ghost opened: { (c : KnownCatalog) → catalog ≡ Some c → is_open ≡ true },
-    ghost known: { IsTrue D.tells → IsKnown (D.seen (disk_of store)) catalog } by { Prim.hlevel props },
+    ghost knows: { IsTrue D.is_known → IsKnown (D.seen (disk_of store)) catalog } by { Prim.hlevel props },
 }
 
 impl<D: Disk + Drop> Drop for DbDisk<D> {

@@ -7,7 +7,7 @@ ghost use Rattle.disk_model.specs.declared.disk.Addr.{Addr as At};
 ghost use Rattle.disk_model.specs.History.{Came, CameSo};
 ghost use Rattle.disk_model.specs.declared.calls.Call.TheVariants.{Write as AWrite, Sync as ASync};
 ghost use Rattle.batch_file.specs.Layout.{addr, first_byte, gate};
-ghost use Rattle.stored_database.specs.Standing.{stored, empty_database};
+ghost use Rattle.stored_database.specs.Denoting.{stored, empty_database};
 ghost use Rattle.db_disk.specs.Created.{IsFresh, IsHeader, IsMaking, IsReady, IsNewDatabase, IsUnborn, UnbornOrHolds, birth, birth_page};
 ghost use Rattle.db_disk.specs.Making.{Bears, BothCame, Clears, Creates, Heads, Prepares};
 ghost use Rattle.db_disk.specs.Faults.{FailsBy};
@@ -30,12 +30,12 @@ const BIRTH: Addr = Addr { file: 0, page: 1 };
 /// Writes another page than that of the birth byte.
 fn write_beside<D: Disk>(disk: &mut D, a: Addr, page: &Page) -> Result<(), DiskFailed>
     requires beside { a ≢ birth_page }
-    requires unborn { IsTrue D.tells → IsUnborn (D.seen disk.old) (D.touched disk.old) }
-    ensures unborn { IsTrue D.tells → IsUnborn (D.seen disk.new) (D.touched disk.new) }
-    ensures crash { IsTrue D.tells → (s : D) (dba : List ℕ) → IsMaking D.seen D.touched D.clock D.left_since dba s disk.old
+    requires unborn { IsTrue D.is_known → IsUnborn (D.seen disk.old) (D.touched disk.old) }
+    ensures unborn { IsTrue D.is_known → IsUnborn (D.seen disk.new) (D.touched disk.new) }
+    ensures crash { IsTrue D.is_known → (s : D) (dba : List ℕ) → IsMaking D.seen D.touched D.clock D.left_since dba s disk.old
         → IsMaking D.seen D.touched D.clock D.left_since dba s disk.new }
-    ensures written { IsTrue D.tells → OnOk result (D.seen disk.new a ≡ Some page.now) }
-    ensures elsewhere { IsTrue D.tells → (b : At) → b ≢ a → D.seen disk.new b ≡ D.seen disk.old b }
+    ensures written { IsTrue D.is_known → OnOk result (D.seen disk.new a ≡ Some page.now) }
+    ensures elsewhere { IsTrue D.is_known → (b : At) → b ≢ a → D.seen disk.new b ≡ D.seen disk.old b }
     ensures noted { OnOk result (Came (D.history disk.old) (D.history disk.new) (AWrite a page.now ∷ [])) }
     ensures cause { HasCause (D.faults disk.old) (D.faults disk.new) result }
 {
@@ -45,12 +45,12 @@ fn write_beside<D: Disk>(disk: &mut D, a: Addr, page: &Page) -> Result<(), DiskF
 
 /// Shuts the gate and writes the header.
 fn write_heads<D: Disk>(disk: &mut D, dba: &Name) -> Result<(), DiskFailed>
-    requires unborn { IsTrue D.tells → IsUnborn (D.seen disk.old) (D.touched disk.old) }
-    ensures unborn { IsTrue D.tells → IsUnborn (D.seen disk.new) (D.touched disk.new) }
-    ensures crash { IsTrue D.tells → (s : D) (dba : List ℕ) → IsMaking D.seen D.touched D.clock D.left_since dba s disk.old
+    requires unborn { IsTrue D.is_known → IsUnborn (D.seen disk.old) (D.touched disk.old) }
+    ensures unborn { IsTrue D.is_known → IsUnborn (D.seen disk.new) (D.touched disk.new) }
+    ensures crash { IsTrue D.is_known → (s : D) (dba : List ℕ) → IsMaking D.seen D.touched D.clock D.left_since dba s disk.old
         → IsMaking D.seen D.touched D.clock D.left_since dba s disk.new }
-    ensures shut { IsTrue D.tells → OnOk result (gate (D.seen disk.new) ≢ 1) }
-    ensures header { IsTrue D.tells → OnOk result (IsHeader dba.now (D.seen disk.new (addr 0 0))) }
+    ensures shut { IsTrue D.is_known → OnOk result (gate (D.seen disk.new) ≢ 1) }
+    ensures header { IsTrue D.is_known → OnOk result (IsHeader dba.now (D.seen disk.new (addr 0 0))) }
     ensures made { OnOk result (CameSo (D.history disk.old) (D.history disk.new) (Heads dba.now)) }
     ensures cause { HasCause (D.faults disk.old) (D.faults disk.new) result }
 {
@@ -64,12 +64,12 @@ fn write_heads<D: Disk>(disk: &mut D, dba: &Name) -> Result<(), DiskFailed>
 /// Writes the first page of a catalogue, without a row.
 fn write_catalogue<D: Disk>(disk: &mut D, file: u32) -> Result<(), DiskFailed>
     requires file { 5 ≤ file }
-    requires unborn { IsTrue D.tells → IsUnborn (D.seen disk.old) (D.touched disk.old) }
-    ensures unborn { IsTrue D.tells → IsUnborn (D.seen disk.new) (D.touched disk.new) }
-    ensures crash { IsTrue D.tells → (s : D) (dba : List ℕ) → IsMaking D.seen D.touched D.clock D.left_since dba s disk.old
+    requires unborn { IsTrue D.is_known → IsUnborn (D.seen disk.old) (D.touched disk.old) }
+    ensures unborn { IsTrue D.is_known → IsUnborn (D.seen disk.new) (D.touched disk.new) }
+    ensures crash { IsTrue D.is_known → (s : D) (dba : List ℕ) → IsMaking D.seen D.touched D.clock D.left_since dba s disk.old
         → IsMaking D.seen D.touched D.clock D.left_since dba s disk.new }
-    ensures elsewhere { IsTrue D.tells → (b : At) → b ≢ addr file 0 → D.seen disk.new b ≡ D.seen disk.old b }
-    ensures fresh { IsTrue D.tells → OnOk result (IsFresh (D.seen disk.new (addr file 0))) }
+    ensures elsewhere { IsTrue D.is_known → (b : At) → b ≢ addr file 0 → D.seen disk.new b ≡ D.seen disk.old b }
+    ensures fresh { IsTrue D.is_known → OnOk result (IsFresh (D.seen disk.new (addr file 0))) }
     ensures made { OnOk result (CameSo (D.history disk.old) (D.history disk.new) (Clears file)) }
     ensures cause { HasCause (D.faults disk.old) (D.faults disk.new) result }
 {
@@ -81,12 +81,12 @@ fn write_catalogue<D: Disk>(disk: &mut D, file: u32) -> Result<(), DiskFailed>
 
 /// Waits until all that was written is durable, none being born.
 fn settle<D: Disk>(disk: &mut D) -> Result<(), DiskFailed>
-    requires unborn { IsTrue D.tells → IsUnborn (D.seen disk.old) (D.touched disk.old) }
-    ensures unborn { IsTrue D.tells → IsUnborn (D.seen disk.new) (D.touched disk.new) }
-    ensures crash { IsTrue D.tells → (s : D) (dba : List ℕ) → IsMaking D.seen D.touched D.clock D.left_since dba s disk.old
+    requires unborn { IsTrue D.is_known → IsUnborn (D.seen disk.old) (D.touched disk.old) }
+    ensures unborn { IsTrue D.is_known → IsUnborn (D.seen disk.new) (D.touched disk.new) }
+    ensures crash { IsTrue D.is_known → (s : D) (dba : List ℕ) → IsMaking D.seen D.touched D.clock D.left_since dba s disk.old
         → IsMaking D.seen D.touched D.clock D.left_since dba s disk.new }
-    ensures same { IsTrue D.tells → D.seen disk.new ≡ D.seen disk.old }
-    ensures settled { IsTrue D.tells → OnOk result (IsSettled (D.touched disk.new)) }
+    ensures same { IsTrue D.is_known → D.seen disk.new ≡ D.seen disk.old }
+    ensures settled { IsTrue D.is_known → OnOk result (IsSettled (D.touched disk.new)) }
     ensures noted { OnOk result (Came (D.history disk.old) (D.history disk.new) (ASync ∷ [])) }
     ensures cause { HasCause (D.faults disk.old) (D.faults disk.new) result }
 {
@@ -96,12 +96,12 @@ fn settle<D: Disk>(disk: &mut D) -> Result<(), DiskFailed>
 
 /// Writes all but the birth byte.
 fn prepare<D: Disk>(disk: &mut D, dba: &Name) -> Result<(), DiskFailed>
-    requires unborn { IsTrue D.tells → IsUnborn (D.seen disk.old) (D.touched disk.old) }
-    ensures unborn { IsTrue D.tells → IsUnborn (D.seen disk.new) (D.touched disk.new) }
-    ensures crash { IsTrue D.tells → (s : D) (dba : List ℕ) → IsMaking D.seen D.touched D.clock D.left_since dba s disk.old
+    requires unborn { IsTrue D.is_known → IsUnborn (D.seen disk.old) (D.touched disk.old) }
+    ensures unborn { IsTrue D.is_known → IsUnborn (D.seen disk.new) (D.touched disk.new) }
+    ensures crash { IsTrue D.is_known → (s : D) (dba : List ℕ) → IsMaking D.seen D.touched D.clock D.left_since dba s disk.old
         → IsMaking D.seen D.touched D.clock D.left_since dba s disk.new }
-    ensures ready { IsTrue D.tells → OnOk result (IsReady dba.now (D.seen disk.new)) }
-    ensures settled { IsTrue D.tells → OnOk result (IsSettled (D.touched disk.new)) }
+    ensures ready { IsTrue D.is_known → OnOk result (IsReady dba.now (D.seen disk.new)) }
+    ensures settled { IsTrue D.is_known → OnOk result (IsSettled (D.touched disk.new)) }
     ensures made { OnOk result (CameSo (D.history disk.old) (D.history disk.new) (Prepares dba.now)) }
     ensures cause { HasCause (D.faults disk.old) (D.faults disk.new) result }
 {
@@ -115,12 +115,12 @@ fn prepare<D: Disk>(disk: &mut D, dba: &Name) -> Result<(), DiskFailed>
 
 /// Writes the birth byte.
 fn give_birth<D: Disk>(disk: &mut D, dba: &Name) -> Result<(), DiskFailed>
-    requires ready { IsTrue D.tells → IsReady dba.now (D.seen disk.old) }
-    requires settled { IsTrue D.tells → IsSettled (D.touched disk.old) }
-    ensures crash { IsTrue D.tells → (s : D) → IsMaking D.seen D.touched D.clock D.left_since dba.now s disk.old
+    requires ready { IsTrue D.is_known → IsReady dba.now (D.seen disk.old) }
+    requires settled { IsTrue D.is_known → IsSettled (D.touched disk.old) }
+    ensures crash { IsTrue D.is_known → (s : D) → IsMaking D.seen D.touched D.clock D.left_since dba.now s disk.old
         → IsMaking D.seen D.touched D.clock D.left_since dba.now s disk.new }
-    ensures new { IsTrue D.tells → OnOk result (IsNewDatabase dba.now (D.seen disk.new)) }
-    ensures settled { IsTrue D.tells → OnOk result (IsSettled (D.touched disk.new)) }
+    ensures new { IsTrue D.is_known → OnOk result (IsNewDatabase dba.now (D.seen disk.new)) }
+    ensures settled { IsTrue D.is_known → OnOk result (IsSettled (D.touched disk.new)) }
     ensures made { OnOk result (CameSo (D.history disk.old) (D.history disk.new) Bears) }
     ensures cause { HasCause (D.faults disk.old) (D.faults disk.new) result }
 {
@@ -133,8 +133,8 @@ fn give_birth<D: Disk>(disk: &mut D, dba: &Name) -> Result<(), DiskFailed>
 
 /// Whether a database was born on the disk.
 fn is_born<D: Disk>(disk: &mut D) -> Result<bool, DiskFailed>
-    ensures born { IsTrue D.tells → IfOk result (λ yes. IsTrue yes ↔ (birth (D.seen disk.old) ≡ 1)) }
-    ensures same { IsTrue D.tells → OnlyReads D.seen D.touched D.clock D.left_since disk.old disk.new }
+    ensures born { IsTrue D.is_known → IfOk result (λ yes. IsTrue yes ↔ (birth (D.seen disk.old) ≡ 1)) }
+    ensures same { IsTrue D.is_known → OnlyReads D.seen D.touched D.clock D.left_since disk.old disk.new }
     ensures unwritten { D.history disk.new ≡ D.history disk.old }
     ensures cause { HasCause (D.faults disk.old) (D.faults disk.new) result }
 {
@@ -152,10 +152,10 @@ fn begins(found: bool, page: &Page) -> bool
 
 /// Whether a database was born on the disk, once what was written before is durable.
 fn is_born_still<D: Disk>(disk: &mut D) -> Result<bool, DiskFailed>
-    ensures born { IsTrue D.tells → IfOk result (λ yes. IsTrue yes ↔ (birth (D.seen disk.old) ≡ 1)) }
-    ensures same { IsTrue D.tells → D.seen disk.new ≡ D.seen disk.old }
-    ensures settled { IsTrue D.tells → OnOk result (IsSettled (D.touched disk.new)) }
-    ensures crash { IsTrue D.tells → (dba : List ℕ) → IsMaking D.seen D.touched D.clock D.left_since dba disk.old disk.new }
+    ensures born { IsTrue D.is_known → IfOk result (λ yes. IsTrue yes ↔ (birth (D.seen disk.old) ≡ 1)) }
+    ensures same { IsTrue D.is_known → D.seen disk.new ≡ D.seen disk.old }
+    ensures settled { IsTrue D.is_known → OnOk result (IsSettled (D.touched disk.new)) }
+    ensures crash { IsTrue D.is_known → (dba : List ℕ) → IsMaking D.seen D.touched D.clock D.left_since dba disk.old disk.new }
     ensures noted { OnOk result (Came (D.history disk.old) (D.history disk.new) (ASync ∷ [])) }
     ensures cause { HasCause (D.faults disk.old) (D.faults disk.new) result }
 {
@@ -165,12 +165,12 @@ fn is_born_still<D: Disk>(disk: &mut D) -> Result<bool, DiskFailed>
 
 /// Makes the disk hold a database, where none was born on it and nothing is touched.
 fn make<D: Disk>(disk: &mut D, dba: &Name) -> Result<(), DiskFailed>
-    requires unborn { IsTrue D.tells → birth (D.seen disk.old) ≢ 1 }
-    requires settled { IsTrue D.tells → IsSettled (D.touched disk.old) }
-    ensures crash { IsTrue D.tells → (s : D) → IsMaking D.seen D.touched D.clock D.left_since dba.now s disk.old
+    requires unborn { IsTrue D.is_known → birth (D.seen disk.old) ≢ 1 }
+    requires settled { IsTrue D.is_known → IsSettled (D.touched disk.old) }
+    ensures crash { IsTrue D.is_known → (s : D) → IsMaking D.seen D.touched D.clock D.left_since dba.now s disk.old
         → IsMaking D.seen D.touched D.clock D.left_since dba.now s disk.new }
-    ensures new { IsTrue D.tells → OnOk result (IsNewDatabase dba.now (D.seen disk.new)) }
-    ensures settled { IsTrue D.tells → OnOk result (IsSettled (D.touched disk.new)) }
+    ensures new { IsTrue D.is_known → OnOk result (IsNewDatabase dba.now (D.seen disk.new)) }
+    ensures settled { IsTrue D.is_known → OnOk result (IsSettled (D.touched disk.new)) }
     ensures made { OnOk result (BothCame (D.history disk.old) (D.history disk.new) dba.now) }
     ensures cause { HasCause (D.faults disk.old) (D.faults disk.new) result }
 {
@@ -184,13 +184,13 @@ fn make<D: Disk>(disk: &mut D, dba: &Name) -> Result<(), DiskFailed>
 /// moment leaves an image of before, one on which no database is born, or one that holds the new
 /// database. Takes no memory.
 pub fn create_db<D: Disk>(disk: &mut D, dba: &Name) -> Result<(), CreateFault>
-    ensures exists { IsTrue D.tells → (IsErrOf result CreateFault.Exists → birth (D.seen disk.old) ≡ 1) }
-    ensures born { IsTrue D.tells → birth (D.seen disk.old) ≡ 1 → (result ≡ Err CreateFault.Exists) ⊎ (result ≡ Err CreateFault.Disk) }
-    ensures crash { IsTrue D.tells → LeavesOnly D.clock D.left_since disk.old disk.new
+    ensures exists { IsTrue D.is_known → (IsErrOf result CreateFault.Exists → birth (D.seen disk.old) ≡ 1) }
+    ensures born { IsTrue D.is_known → birth (D.seen disk.old) ≡ 1 → (result ≡ Err CreateFault.Exists) ⊎ (result ≡ Err CreateFault.Disk) }
+    ensures crash { IsTrue D.is_known → LeavesOnly D.clock D.left_since disk.old disk.new
         (λ m. IsImage (D.seen disk.old) (D.touched disk.old) m ⊎ UnbornOrHolds dba.now m) }
-    ensures new { IsTrue D.tells → OnOk result (stored (D.seen disk.new) ≡ Some (empty_database dba.now)) }
-    ensures settled { IsTrue D.tells → OnOk result (IsSettled (D.touched disk.new)) }
-    // Whatever the disk tells of what it holds, these calls were made and answered Ok.
+    ensures new { IsTrue D.is_known → OnOk result (stored (D.seen disk.new) ≡ Some (empty_database dba.now)) }
+    ensures settled { IsTrue D.is_known → OnOk result (IsSettled (D.touched disk.new)) }
+    // Whatever is known of the disk's content, these calls were made and answered Ok.
     ensures made { OnOk result (CameSo (D.history disk.old) (D.history disk.new) (Creates dba.now)) }
     ensures unwritten { IsErrOf result CreateFault.Exists → Came (D.history disk.old) (D.history disk.new) (ASync ∷ []) }
     ensures cause { FailsBy (D.faults disk.old) (D.faults disk.new) result }

@@ -2,15 +2,15 @@
 
 ghost use Rattle.std.specs.Prelude.{◌≡◌, ◌==◌, Some, IfOk, take, bytes_eq, if◌then◌else◌};
 ghost use Rattle.disk_model.specs.Disk.{Image, RisesUpTo};
-ghost use Rattle.access_traits.specs.Causes.{HasStoreCause};
+ghost use Rattle.am_traits.specs.Causes.{HasStoreCause};
 ghost use Rattle.batch_file.specs.Layout.{first_byte};
 ghost use Rattle.calculus.specs.Text.{trimmed};
-ghost use Rattle.stored_database.specs.Standing.{birth, header_bytes, header_of};
+ghost use Rattle.stored_database.specs.Denoting.{birth, header_bytes, header_of};
 ghost use Rattle.db_disk.specs.Head.{IsHead};
 ghost use Rattle.db_disk.specs.Held.{administrator};
 
 use crate::header::put_header;
-use access_traits::{PageStore, StoreFault};
+use am_traits::{PageStore, StoreFault};
 use calculus::{Name, OutOfMemory};
 use disk_model::{Addr, Page};
 use std::alloc::Global;

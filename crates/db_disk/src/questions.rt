@@ -1,7 +1,7 @@
 //! What is asked of a database on a disk and told by its schema.
 
 use crate::{DbDisk, asked};
-use am_traits::BaseFault;
+use base_trait::BaseFault;
 use calculus::{Name, Permit, Query, RelInfo, RelKey, Rule};
 use disk_model::Disk;
 use std::alloc::Global;
@@ -10,8 +10,8 @@ impl<D: Disk> DbDisk<D> {
     ghost use Rattle.std.specs.Prelude.{◌≡◌, ℕ, IsTrue, Some, IfOk, OnOk, is_some, length};
     ghost use Rattle.calculus.specs.Database.{Db, entries, permits_on, rules_on};
     ghost use Rattle.calculus.specs.Finding.{found};
-    ghost use Rattle.am_traits.specs.Causes.{HasCause};
-    ghost use Rattle.am_traits.specs.Told.{is_named_by_view, known_at, query_at};
+    ghost use Rattle.base_trait.specs.Causes.{HasCause};
+    ghost use Rattle.base_trait.specs.Known.{is_named_by_view, known_at, query_at};
     ghost use Rattle.disk_model.specs.Disk.{LeavesOnly, RisesUpTo};
     ghost use Rattle.db_disk.specs.Held.{SameHeld};
     ghost use Rattle.db_disk.specs.Reads.{OpensBy, files_known};
@@ -19,7 +19,7 @@ impl<D: Disk> DbDisk<D> {
 
     /// The name of the administrator.
     pub fn dba(&mut self, alloc: Global) -> Result<Name, BaseFault>
-        ensures told { (db : Db) → db_of self.old ≡ Some db → IfOk result (λ name. name ≡ db.dba) }
+        ensures known { (db : Db) → db_of self.old ≡ Some db → IfOk result (λ name. name ≡ db.dba) }
         ensures by_schema { (s : Db) → schema_in self.new ≡ Some s → IfOk result (λ name. name ≡ s.dba) }
         ensures kept { db_of self.new ≡ db_of self.old }
         ensures keeps { (s : Db) → schema_in self.old ≡ Some s → schema_in self.new ≡ Some s }
@@ -27,8 +27,8 @@ impl<D: Disk> DbDisk<D> {
         ensures fixed { OnOk result (IsTrue (is_some (schema_in self.new))) }
         ensures still { (s : Db) → schema_in self.old ≡ Some s → disk_in self.new ≡ disk_in self.old }
         ensures stays { StaysRestored self.old self.new }
-        ensures reads { IsTrue D.tells → (all : ℕ) → OpensBy (D.seen (disk_in self.old)) all → RisesUpTo all (D.reads (disk_in self.old)) (D.reads (disk_in self.new)) }
-        ensures crash { IsTrue D.tells → LeavesOnly D.clock D.left_since (disk_in self.old) (disk_in self.new)
+        ensures reads { IsTrue D.is_known → (all : ℕ) → OpensBy (D.seen (disk_in self.old)) all → RisesUpTo all (D.reads (disk_in self.old)) (D.reads (disk_in self.new)) }
+        ensures crash { IsTrue D.is_known → LeavesOnly D.clock D.left_since (disk_in self.old) (disk_in self.new)
             (SameHeld (D.seen (disk_in self.old)) (D.touched (disk_in self.old))) }
         ensures cause { HasCause (db_of self.old) (D.faults (disk_in self.old)) (D.faults (disk_in self.new)) result }
     {
@@ -38,7 +38,7 @@ impl<D: Disk> DbDisk<D> {
 
     /// The number of relations, views and indexes, without the catalogues.
     pub fn count(&mut self) -> Result<u32, BaseFault>
-        ensures told { (db : Db) → db_of self.old ≡ Some db → IfOk result (λ n. n ≡ length (entries db)) }
+        ensures known { (db : Db) → db_of self.old ≡ Some db → IfOk result (λ n. n ≡ length (entries db)) }
         ensures by_schema { (s : Db) → schema_in self.new ≡ Some s → IfOk result (λ n. n ≡ length (entries s)) }
         ensures kept { db_of self.new ≡ db_of self.old }
         ensures keeps { (s : Db) → schema_in self.old ≡ Some s → schema_in self.new ≡ Some s }
@@ -46,8 +46,8 @@ impl<D: Disk> DbDisk<D> {
         ensures fixed { OnOk result (IsTrue (is_some (schema_in self.new))) }
         ensures still { (s : Db) → schema_in self.old ≡ Some s → disk_in self.new ≡ disk_in self.old }
         ensures stays { StaysRestored self.old self.new }
-        ensures reads { IsTrue D.tells → (all : ℕ) → OpensBy (D.seen (disk_in self.old)) all → RisesUpTo all (D.reads (disk_in self.old)) (D.reads (disk_in self.new)) }
-        ensures crash { IsTrue D.tells → LeavesOnly D.clock D.left_since (disk_in self.old) (disk_in self.new)
+        ensures reads { IsTrue D.is_known → (all : ℕ) → OpensBy (D.seen (disk_in self.old)) all → RisesUpTo all (D.reads (disk_in self.old)) (D.reads (disk_in self.new)) }
+        ensures crash { IsTrue D.is_known → LeavesOnly D.clock D.left_since (disk_in self.old) (disk_in self.new)
             (SameHeld (D.seen (disk_in self.old)) (D.touched (disk_in self.old))) }
         ensures cause { HasCause (db_of self.old) (D.faults (disk_in self.old)) (D.faults (disk_in self.new)) result }
     {
@@ -63,7 +63,7 @@ impl<D: Disk> DbDisk<D> {
         name: &Name,
         user: &Name,
     ) -> Result<Option<RelInfo>, BaseFault>
-        ensures told { (db : Db) → db_of self.old ≡ Some db → IfOk result (λ info. info ≡ found db user.now name.now) }
+        ensures known { (db : Db) → db_of self.old ≡ Some db → IfOk result (λ info. info ≡ found db user.now name.now) }
         ensures by_schema { (s : Db) → schema_in self.new ≡ Some s → IfOk result (λ info. info ≡ found s user.now name.now) }
         ensures kept { db_of self.new ≡ db_of self.old }
         ensures keeps { (s : Db) → schema_in self.old ≡ Some s → schema_in self.new ≡ Some s }
@@ -71,8 +71,8 @@ impl<D: Disk> DbDisk<D> {
         ensures fixed { OnOk result (IsTrue (is_some (schema_in self.new))) }
         ensures still { (s : Db) → schema_in self.old ≡ Some s → disk_in self.new ≡ disk_in self.old }
         ensures stays { StaysRestored self.old self.new }
-        ensures reads { IsTrue D.tells → (all : ℕ) → OpensBy (D.seen (disk_in self.old)) all → RisesUpTo all (D.reads (disk_in self.old)) (D.reads (disk_in self.new)) }
-        ensures crash { IsTrue D.tells → LeavesOnly D.clock D.left_since (disk_in self.old) (disk_in self.new)
+        ensures reads { IsTrue D.is_known → (all : ℕ) → OpensBy (D.seen (disk_in self.old)) all → RisesUpTo all (D.reads (disk_in self.old)) (D.reads (disk_in self.new)) }
+        ensures crash { IsTrue D.is_known → LeavesOnly D.clock D.left_since (disk_in self.old) (disk_in self.new)
             (SameHeld (D.seen (disk_in self.old)) (D.touched (disk_in self.old))) }
         ensures cause { HasCause (db_of self.old) (D.faults (disk_in self.old)) (D.faults (disk_in self.new)) result }
     {
@@ -82,7 +82,7 @@ impl<D: Disk> DbDisk<D> {
 
     /// What stands under a key: a relation, a view, an index or a catalogue.
     pub fn info(&mut self, alloc: Global, key: &RelKey) -> Result<Option<RelInfo>, BaseFault>
-        ensures told { (db : Db) → db_of self.old ≡ Some db → IfOk result (λ info. info ≡ known_at db key.now) }
+        ensures known { (db : Db) → db_of self.old ≡ Some db → IfOk result (λ info. info ≡ known_at db key.now) }
         ensures by_schema { (s : Db) → schema_in self.new ≡ Some s → IfOk result (λ info. info ≡ known_at s key.now) }
         ensures kept { db_of self.new ≡ db_of self.old }
         ensures keeps { (s : Db) → schema_in self.old ≡ Some s → schema_in self.new ≡ Some s }
@@ -90,8 +90,8 @@ impl<D: Disk> DbDisk<D> {
         ensures fixed { OnOk result (IsTrue (is_some (schema_in self.new))) }
         ensures still { (s : Db) → schema_in self.old ≡ Some s → disk_in self.new ≡ disk_in self.old }
         ensures stays { StaysRestored self.old self.new }
-        ensures reads { IsTrue D.tells → (all : ℕ) → OpensBy (D.seen (disk_in self.old)) all → RisesUpTo all (D.reads (disk_in self.old)) (D.reads (disk_in self.new)) }
-        ensures crash { IsTrue D.tells → LeavesOnly D.clock D.left_since (disk_in self.old) (disk_in self.new)
+        ensures reads { IsTrue D.is_known → (all : ℕ) → OpensBy (D.seen (disk_in self.old)) all → RisesUpTo all (D.reads (disk_in self.old)) (D.reads (disk_in self.new)) }
+        ensures crash { IsTrue D.is_known → LeavesOnly D.clock D.left_since (disk_in self.old) (disk_in self.new)
             (SameHeld (D.seen (disk_in self.old)) (D.touched (disk_in self.old))) }
         ensures cause { HasCause (db_of self.old) (D.faults (disk_in self.old)) (D.faults (disk_in self.new)) result }
     {
@@ -101,7 +101,7 @@ impl<D: Disk> DbDisk<D> {
 
     /// The query of a view; `None` exactly where no view stands under the key.
     pub fn view(&mut self, alloc: Global, key: &RelKey) -> Result<Option<Query>, BaseFault>
-        ensures told { (db : Db) → db_of self.old ≡ Some db → IfOk result (λ q. q ≡ query_at db key.now) }
+        ensures known { (db : Db) → db_of self.old ≡ Some db → IfOk result (λ q. q ≡ query_at db key.now) }
         ensures by_schema { (s : Db) → schema_in self.new ≡ Some s → IfOk result (λ q. q ≡ query_at s key.now) }
         ensures kept { db_of self.new ≡ db_of self.old }
         ensures keeps { (s : Db) → schema_in self.old ≡ Some s → schema_in self.new ≡ Some s }
@@ -109,8 +109,8 @@ impl<D: Disk> DbDisk<D> {
         ensures fixed { OnOk result (IsTrue (is_some (schema_in self.new))) }
         ensures still { (s : Db) → schema_in self.old ≡ Some s → disk_in self.new ≡ disk_in self.old }
         ensures stays { StaysRestored self.old self.new }
-        ensures reads { IsTrue D.tells → (all : ℕ) → OpensBy (D.seen (disk_in self.old)) all → RisesUpTo all (D.reads (disk_in self.old)) (D.reads (disk_in self.new)) }
-        ensures crash { IsTrue D.tells → LeavesOnly D.clock D.left_since (disk_in self.old) (disk_in self.new)
+        ensures reads { IsTrue D.is_known → (all : ℕ) → OpensBy (D.seen (disk_in self.old)) all → RisesUpTo all (D.reads (disk_in self.old)) (D.reads (disk_in self.new)) }
+        ensures crash { IsTrue D.is_known → LeavesOnly D.clock D.left_since (disk_in self.old) (disk_in self.new)
             (SameHeld (D.seen (disk_in self.old)) (D.touched (disk_in self.old))) }
         ensures cause { HasCause (db_of self.old) (D.faults (disk_in self.old)) (D.faults (disk_in self.new)) result }
     {
@@ -120,7 +120,7 @@ impl<D: Disk> DbDisk<D> {
 
     /// The rules of a relation, by number.
     pub fn rules(&mut self, alloc: Global, key: &RelKey) -> Result<Vec<Rule>, BaseFault>
-        ensures told { (db : Db) → db_of self.old ≡ Some db → IfOk result (λ rs. rs.items ≡ rules_on db key.now) }
+        ensures known { (db : Db) → db_of self.old ≡ Some db → IfOk result (λ rs. rs.items ≡ rules_on db key.now) }
         ensures by_schema { (s : Db) → schema_in self.new ≡ Some s → IfOk result (λ rs. rs.items ≡ rules_on s key.now) }
         ensures kept { db_of self.new ≡ db_of self.old }
         ensures keeps { (s : Db) → schema_in self.old ≡ Some s → schema_in self.new ≡ Some s }
@@ -128,8 +128,8 @@ impl<D: Disk> DbDisk<D> {
         ensures fixed { OnOk result (IsTrue (is_some (schema_in self.new))) }
         ensures still { (s : Db) → schema_in self.old ≡ Some s → disk_in self.new ≡ disk_in self.old }
         ensures stays { StaysRestored self.old self.new }
-        ensures reads { IsTrue D.tells → (all : ℕ) → OpensBy (D.seen (disk_in self.old)) all → RisesUpTo all (D.reads (disk_in self.old)) (D.reads (disk_in self.new)) }
-        ensures crash { IsTrue D.tells → LeavesOnly D.clock D.left_since (disk_in self.old) (disk_in self.new)
+        ensures reads { IsTrue D.is_known → (all : ℕ) → OpensBy (D.seen (disk_in self.old)) all → RisesUpTo all (D.reads (disk_in self.old)) (D.reads (disk_in self.new)) }
+        ensures crash { IsTrue D.is_known → LeavesOnly D.clock D.left_since (disk_in self.old) (disk_in self.new)
             (SameHeld (D.seen (disk_in self.old)) (D.touched (disk_in self.old))) }
         ensures cause { HasCause (db_of self.old) (D.faults (disk_in self.old)) (D.faults (disk_in self.new)) result }
     {
@@ -139,7 +139,7 @@ impl<D: Disk> DbDisk<D> {
 
     /// The permits of a relation, by number.
     pub fn permits(&mut self, alloc: Global, key: &RelKey) -> Result<Vec<Permit>, BaseFault>
-        ensures told { (db : Db) → db_of self.old ≡ Some db → IfOk result (λ ps. ps.items ≡ permits_on db key.now) }
+        ensures known { (db : Db) → db_of self.old ≡ Some db → IfOk result (λ ps. ps.items ≡ permits_on db key.now) }
         ensures by_schema { (s : Db) → schema_in self.new ≡ Some s → IfOk result (λ ps. ps.items ≡ permits_on s key.now) }
         ensures kept { db_of self.new ≡ db_of self.old }
         ensures keeps { (s : Db) → schema_in self.old ≡ Some s → schema_in self.new ≡ Some s }
@@ -147,8 +147,8 @@ impl<D: Disk> DbDisk<D> {
         ensures fixed { OnOk result (IsTrue (is_some (schema_in self.new))) }
         ensures still { (s : Db) → schema_in self.old ≡ Some s → disk_in self.new ≡ disk_in self.old }
         ensures stays { StaysRestored self.old self.new }
-        ensures reads { IsTrue D.tells → (all : ℕ) → OpensBy (D.seen (disk_in self.old)) all → RisesUpTo all (D.reads (disk_in self.old)) (D.reads (disk_in self.new)) }
-        ensures crash { IsTrue D.tells → LeavesOnly D.clock D.left_since (disk_in self.old) (disk_in self.new)
+        ensures reads { IsTrue D.is_known → (all : ℕ) → OpensBy (D.seen (disk_in self.old)) all → RisesUpTo all (D.reads (disk_in self.old)) (D.reads (disk_in self.new)) }
+        ensures crash { IsTrue D.is_known → LeavesOnly D.clock D.left_since (disk_in self.old) (disk_in self.new)
             (SameHeld (D.seen (disk_in self.old)) (D.touched (disk_in self.old))) }
         ensures cause { HasCause (db_of self.old) (D.faults (disk_in self.old)) (D.faults (disk_in self.new)) result }
     {
@@ -163,7 +163,7 @@ impl<D: Disk> DbDisk<D> {
         key: &RelKey,
         but: &[RelKey],
     ) -> Result<bool, BaseFault>
-        ensures told { (db : Db) → db_of self.old ≡ Some db → IfOk result (λ b. b ≡ is_named_by_view db but.now key.now) }
+        ensures known { (db : Db) → db_of self.old ≡ Some db → IfOk result (λ b. b ≡ is_named_by_view db but.now key.now) }
         ensures by_schema { (s : Db) → schema_in self.new ≡ Some s → IfOk result (λ b. b ≡ is_named_by_view s but.now key.now) }
         ensures kept { db_of self.new ≡ db_of self.old }
         ensures keeps { (s : Db) → schema_in self.old ≡ Some s → schema_in self.new ≡ Some s }
@@ -171,8 +171,8 @@ impl<D: Disk> DbDisk<D> {
         ensures fixed { OnOk result (IsTrue (is_some (schema_in self.new))) }
         ensures still { (s : Db) → schema_in self.old ≡ Some s → disk_in self.new ≡ disk_in self.old }
         ensures stays { StaysRestored self.old self.new }
-        ensures reads { IsTrue D.tells → (all : ℕ) → OpensBy (D.seen (disk_in self.old)) all → RisesUpTo all (D.reads (disk_in self.old)) (D.reads (disk_in self.new)) }
-        ensures crash { IsTrue D.tells → LeavesOnly D.clock D.left_since (disk_in self.old) (disk_in self.new)
+        ensures reads { IsTrue D.is_known → (all : ℕ) → OpensBy (D.seen (disk_in self.old)) all → RisesUpTo all (D.reads (disk_in self.old)) (D.reads (disk_in self.new)) }
+        ensures crash { IsTrue D.is_known → LeavesOnly D.clock D.left_since (disk_in self.old) (disk_in self.new)
             (SameHeld (D.seen (disk_in self.old)) (D.touched (disk_in self.old))) }
         ensures cause { HasCause (db_of self.old) (D.faults (disk_in self.old)) (D.faults (disk_in self.new)) result }
     {

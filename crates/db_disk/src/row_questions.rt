@@ -2,7 +2,7 @@
 
 use crate::filling::fill;
 use crate::{DbDisk, asked_rows};
-use am_traits::BaseFault;
+use base_trait::BaseFault;
 use calculus::{Place, Probe, RelKey, Row};
 use disk_model::Disk;
 use std::alloc::Global;
@@ -14,8 +14,8 @@ impl<D: Disk> DbDisk<D> {
     ghost use Rattle.calculus.specs.IsDatabase.{row_fits};
     ghost use Rattle.calculus.specs.Rows.{has};
     ghost use Rattle.calculus.specs.Stored.{attrs_at, rows_at};
-    ghost use Rattle.am_traits.specs.Causes.{HasCause};
-    ghost use Rattle.am_traits.specs.Scans.{Gives, IsOver};
+    ghost use Rattle.base_trait.specs.Causes.{HasCause};
+    ghost use Rattle.base_trait.specs.Scans.{Gives, IsOver};
     ghost use Rattle.disk_model.specs.Disk.{LeavesOnly, OnlyReads, RisesUpTo};
     ghost use Rattle.plain_base.specs.Shown.{database_of};
     ghost use Rattle.catalog.specs.declared.catalog.Catalog.{Catalog as KnownCatalog};
@@ -36,12 +36,12 @@ impl<D: Disk> DbDisk<D> {
         ensures again { rows_in_memory self.old key.now ≡ true → D.reads (disk_in self.new) ≡ D.reads (disk_in self.old) }
         ensures in_memory { OnOk result (rows_in_memory self.new key.now ≡ true) }
         ensures reads { (s : Db) → schema_in self.old ≡ Some s → RisesUpTo (pages_known self.new key.now) (D.reads (disk_in self.old)) (D.reads (disk_in self.new)) }
-        ensures opening_reads { IsTrue D.tells → (all : ℕ) → OpensBy (D.seen (disk_in self.old)) all
+        ensures opening_reads { IsTrue D.is_known → (all : ℕ) → OpensBy (D.seen (disk_in self.old)) all
             → RisesUpTo (all + pages_known self.new key.now) (D.reads (disk_in self.old)) (D.reads (disk_in self.new)) }
         // Once the catalogue is known the disk is read and nothing else.
-        ensures quiet { IsTrue D.tells → (s : Db) → schema_in self.old ≡ Some s → D.clock (disk_in self.new) ≡ D.clock (disk_in self.old) }
+        ensures quiet { IsTrue D.is_known → (s : Db) → schema_in self.old ≡ Some s → D.clock (disk_in self.new) ≡ D.clock (disk_in self.old) }
         ensures stays { StaysRestored self.old self.new }
-        ensures crash { IsTrue D.tells → LeavesOnly D.clock D.left_since (disk_in self.old) (disk_in self.new)
+        ensures crash { IsTrue D.is_known → LeavesOnly D.clock D.left_since (disk_in self.old) (disk_in self.new)
             (SameHeld (D.seen (disk_in self.old)) (D.touched (disk_in self.old))) }
         ensures cause { HasCause (db_of self.old) (D.faults (disk_in self.old)) (D.faults (disk_in self.new)) result }
     {
@@ -62,7 +62,7 @@ impl<D: Disk> DbDisk<D> {
         ensures reads { RisesUpTo (pages_known self.old key.now) (D.reads (disk_in self.old)) (D.reads (disk_in self.new)) }
         ensures again { rows_in_memory self.old key.now ≡ true → D.reads (disk_in self.new) ≡ D.reads (disk_in self.old) }
         ensures in_memory { OnOk result (rows_in_memory self.new key.now ≡ true) }
-        ensures only_reads { IsTrue D.tells → OnlyReads D.seen D.touched D.clock D.left_since (disk_in self.old) (disk_in self.new) }
+        ensures only_reads { IsTrue D.is_known → OnlyReads D.seen D.touched D.clock D.left_since (disk_in self.old) (disk_in self.new) }
         ensures cause { HasCause (db_of self.old) (D.faults (disk_in self.old)) (D.faults (disk_in self.new)) result }
     {
         fill(
@@ -76,7 +76,7 @@ impl<D: Disk> DbDisk<D> {
 
     /// How many rows the relation or catalogue under a key has.
     pub fn size(&mut self, alloc: Global, key: &RelKey) -> Result<u32, BaseFault>
-        ensures told { (db : Db) → db_of self.old ≡ Some db → IfOk result (λ n. n ≡ length (rows_at db key.now)) }
+        ensures known { (db : Db) → db_of self.old ≡ Some db → IfOk result (λ n. n ≡ length (rows_at db key.now)) }
         ensures kept { db_of self.new ≡ db_of self.old }
         ensures keeps { (s : Db) → schema_in self.old ≡ Some s → schema_in self.new ≡ Some s }
         ensures files_stay { (s : Db) → schema_in self.old ≡ Some s → files_known self.new ≡ files_known self.old }
@@ -86,12 +86,12 @@ impl<D: Disk> DbDisk<D> {
         ensures again { rows_in_memory self.old key.now ≡ true → D.reads (disk_in self.new) ≡ D.reads (disk_in self.old) }
         ensures in_memory { OnOk result (rows_in_memory self.new key.now ≡ true) }
         ensures reads { (s : Db) → schema_in self.old ≡ Some s → RisesUpTo (pages_known self.new key.now) (D.reads (disk_in self.old)) (D.reads (disk_in self.new)) }
-        ensures opening_reads { IsTrue D.tells → (all : ℕ) → OpensBy (D.seen (disk_in self.old)) all
+        ensures opening_reads { IsTrue D.is_known → (all : ℕ) → OpensBy (D.seen (disk_in self.old)) all
             → RisesUpTo (all + pages_known self.new key.now) (D.reads (disk_in self.old)) (D.reads (disk_in self.new)) }
         // Once the catalogue is known the disk is read and nothing else.
-        ensures quiet { IsTrue D.tells → (s : Db) → schema_in self.old ≡ Some s → D.clock (disk_in self.new) ≡ D.clock (disk_in self.old) }
+        ensures quiet { IsTrue D.is_known → (s : Db) → schema_in self.old ≡ Some s → D.clock (disk_in self.new) ≡ D.clock (disk_in self.old) }
         ensures stays { StaysRestored self.old self.new }
-        ensures crash { IsTrue D.tells → LeavesOnly D.clock D.left_since (disk_in self.old) (disk_in self.new)
+        ensures crash { IsTrue D.is_known → LeavesOnly D.clock D.left_since (disk_in self.old) (disk_in self.new)
             (SameHeld (D.seen (disk_in self.old)) (D.touched (disk_in self.old))) }
         ensures cause { HasCause (db_of self.old) (D.faults (disk_in self.old)) (D.faults (disk_in self.new)) result }
     {
@@ -101,7 +101,7 @@ impl<D: Disk> DbDisk<D> {
 
     /// Whether the relation or catalogue under a key has the row.
     pub fn has_row(&mut self, alloc: Global, key: &RelKey, row: &Row) -> Result<bool, BaseFault>
-        ensures told { (db : Db) → db_of self.old ≡ Some db → IfOk result (λ b. b ≡ has (rows_at db key.now) row.now) }
+        ensures known { (db : Db) → db_of self.old ≡ Some db → IfOk result (λ b. b ≡ has (rows_at db key.now) row.now) }
         ensures kept { db_of self.new ≡ db_of self.old }
         ensures keeps { (s : Db) → schema_in self.old ≡ Some s → schema_in self.new ≡ Some s }
         ensures files_stay { (s : Db) → schema_in self.old ≡ Some s → files_known self.new ≡ files_known self.old }
@@ -111,12 +111,12 @@ impl<D: Disk> DbDisk<D> {
         ensures again { rows_in_memory self.old key.now ≡ true → D.reads (disk_in self.new) ≡ D.reads (disk_in self.old) }
         ensures in_memory { OnOk result (rows_in_memory self.new key.now ≡ true) }
         ensures reads { (s : Db) → schema_in self.old ≡ Some s → RisesUpTo (pages_known self.new key.now) (D.reads (disk_in self.old)) (D.reads (disk_in self.new)) }
-        ensures opening_reads { IsTrue D.tells → (all : ℕ) → OpensBy (D.seen (disk_in self.old)) all
+        ensures opening_reads { IsTrue D.is_known → (all : ℕ) → OpensBy (D.seen (disk_in self.old)) all
             → RisesUpTo (all + pages_known self.new key.now) (D.reads (disk_in self.old)) (D.reads (disk_in self.new)) }
         // Once the catalogue is known the disk is read and nothing else.
-        ensures quiet { IsTrue D.tells → (s : Db) → schema_in self.old ≡ Some s → D.clock (disk_in self.new) ≡ D.clock (disk_in self.old) }
+        ensures quiet { IsTrue D.is_known → (s : Db) → schema_in self.old ≡ Some s → D.clock (disk_in self.new) ≡ D.clock (disk_in self.old) }
         ensures stays { StaysRestored self.old self.new }
-        ensures crash { IsTrue D.tells → LeavesOnly D.clock D.left_since (disk_in self.old) (disk_in self.new)
+        ensures crash { IsTrue D.is_known → LeavesOnly D.clock D.left_since (disk_in self.old) (disk_in self.new)
             (SameHeld (D.seen (disk_in self.old)) (D.touched (disk_in self.old))) }
         ensures cause { HasCause (db_of self.old) (D.faults (disk_in self.old)) (D.faults (disk_in self.new)) result }
     {
@@ -133,9 +133,9 @@ impl<D: Disk> DbDisk<D> {
         probe: &Probe,
         at: &mut Place,
     ) -> Result<Option<Row>, BaseFault>
-        ensures told { (db : Db) → db_of self.old ≡ Some db → Gives probe.now (left_of self.old key.now) at.old at.new result }
+        ensures known { (db : Db) → db_of self.old ≡ Some db → Gives probe.now (left_of self.old key.now) at.old at.new result }
         ensures over { (db : Db) → db_of self.old ≡ Some db → IsOver probe.now (left_of self.old key.now) at.new result }
-        // Whatever the disk tells, a row of a base relation fits the attributes that the schema gives it.
+        // Whatever is known of the disk's content, a row of a base relation fits the attributes that the schema gives it.
         ensures fits { (s : Db) → schema_in self.new ≡ Some s → is_relation s key.now ≡ true
             → IfOk result (λ row. ForSome row (λ r. row_fits (attrs_at s key.now) r ≡ true)) }
         ensures kept { db_of self.new ≡ db_of self.old }
@@ -148,12 +148,12 @@ impl<D: Disk> DbDisk<D> {
         ensures again { rows_in_memory self.old key.now ≡ true → D.reads (disk_in self.new) ≡ D.reads (disk_in self.old) }
         ensures in_memory { OnOk result (rows_in_memory self.new key.now ≡ true) }
         ensures reads { (s : Db) → schema_in self.old ≡ Some s → RisesUpTo (pages_known self.new key.now) (D.reads (disk_in self.old)) (D.reads (disk_in self.new)) }
-        ensures opening_reads { IsTrue D.tells → (all : ℕ) → OpensBy (D.seen (disk_in self.old)) all
+        ensures opening_reads { IsTrue D.is_known → (all : ℕ) → OpensBy (D.seen (disk_in self.old)) all
             → RisesUpTo (all + pages_known self.new key.now) (D.reads (disk_in self.old)) (D.reads (disk_in self.new)) }
         // Once the catalogue is known the disk is read and nothing else.
-        ensures quiet { IsTrue D.tells → (s : Db) → schema_in self.old ≡ Some s → D.clock (disk_in self.new) ≡ D.clock (disk_in self.old) }
+        ensures quiet { IsTrue D.is_known → (s : Db) → schema_in self.old ≡ Some s → D.clock (disk_in self.new) ≡ D.clock (disk_in self.old) }
         ensures stays { StaysRestored self.old self.new }
-        ensures crash { IsTrue D.tells → LeavesOnly D.clock D.left_since (disk_in self.old) (disk_in self.new)
+        ensures crash { IsTrue D.is_known → LeavesOnly D.clock D.left_since (disk_in self.old) (disk_in self.new)
             (SameHeld (D.seen (disk_in self.old)) (D.touched (disk_in self.old))) }
         ensures cause { HasCause (db_of self.old) (D.faults (disk_in self.old)) (D.faults (disk_in self.new)) result }
     {

@@ -25,17 +25,17 @@ pub struct DiskFailed;
 /// touches every page of its file. A crash leaves, at each touched address, any bytes or no page,
 /// and at each other address what a read gave. After a sync that succeeds nothing is touched.
 ///
-/// What a disk holds may be told or not, by its type: one in memory tells it, a real one does not.
-/// The counts of faults and of reads are always told. The writes, cuts and syncs that it had may be
-/// told or not, also where what it holds isn't: so whoever answers by what was written has to have
+/// What a disk holds may be known or not, by its type: of one in memory it is, of a real one not.
+/// The counts of faults and of reads are always known. The writes, cuts and syncs that it had may be
+/// known or not, also where what it holds isn't: so whoever answers by what was written has to have
 /// made the calls, on whatever disk.
 pub trait Disk {
     ghost use Rattle.disk_model.specs.declared.disk.Addr.{Addr};
     ghost use Rattle.disk_model.specs.declared.calls.Call.{Call as Made};
     ghost use Rattle.disk_model.specs.declared.calls.Call.TheVariants.{Write as AWrite, Cut as ACut, Sync as ASync};
 
-    /// Whether disks of this type tell what they hold. The next four speak of one that does.
-    ghost tells: { Bool };
+    /// Whether the content of disks of this type is known. The next four speak of one that does.
+    ghost is_known: { Bool };
 
     /// The page that a read gives at each address.
     ghost seen: { Self → Image };
@@ -55,15 +55,15 @@ pub trait Disk {
     /// How often a page was read.
     ghost reads: { Self → ℕ };
 
-    /// The writes, cuts and syncs that it had, in their order, where they are told.
+    /// The writes, cuts and syncs that it had, in their order, where they are known.
     ghost history: { Self → Option (List Made) };
 
     /// Reads the page at an address. `Ok(false)` where there is none: it was never written, or it
     /// was cut. What `out` holds then, or after an error, is not said.
     fn read(&mut self, a: Addr, out: &mut Page) -> Result<bool, DiskFailed>
-        ensures page { IsTrue tells →
+        ensures page { IsTrue is_known →
             IfOk result (λ found. seen self.old a ≡ (if found then Some out.new else None)) }
-        ensures same { IsTrue tells → OnlyReads seen touched clock left_since self.old self.new }
+        ensures same { IsTrue is_known → OnlyReads seen touched clock left_since self.old self.new }
         ensures cause { HasCause (faults self.old) (faults self.new) result }
         ensures reads { RisesUpTo 1 (reads self.old) (reads self.new) }
         ensures unwritten { history self.new ≡ history self.old };
@@ -71,10 +71,10 @@ pub trait Disk {
     /// Writes a page. Until a sync succeeds, a crash may leave any bytes there, or no page; after an
     /// error reads may give any bytes there, too.
     fn write(&mut self, a: Addr, page: &Page) -> Result<(), DiskFailed>
-        ensures written { IsTrue tells → OnOk result (seen self.new a ≡ Some page.now) }
-        ensures change { IsTrue tells → Changes (λ b. b ≡ a) seen touched self.old self.new }
-        ensures time { IsTrue tells → Elapses seen touched clock left_since self.old self.new }
-        ensures rises { IsTrue tells → OnOk result (clock self.old < clock self.new) }
+        ensures written { IsTrue is_known → OnOk result (seen self.new a ≡ Some page.now) }
+        ensures change { IsTrue is_known → Changes (λ b. b ≡ a) seen touched self.old self.new }
+        ensures time { IsTrue is_known → Elapses seen touched clock left_since self.old self.new }
+        ensures rises { IsTrue is_known → OnOk result (clock self.old < clock self.new) }
         ensures cause { HasCause (faults self.old) (faults self.new) result }
         ensures reads { reads self.new ≡ reads self.old }
         ensures noted { OnOk result (Came (history self.old) (history self.new) (AWrite a page.now ∷ [])) };
@@ -82,32 +82,32 @@ pub trait Disk {
     /// Takes all pages of a file away. Until a sync succeeds, a crash may leave anything in that
     /// file; after an error reads may give anything there, too.
     fn cut(&mut self, file: u32) -> Result<(), DiskFailed>
-        ensures cut { IsTrue tells →
+        ensures cut { IsTrue is_known →
             OnOk result ((b : Addr) → b.file ≡ file → seen self.new b ≡ None) }
-        ensures change { IsTrue tells →
+        ensures change { IsTrue is_known →
             Changes (λ b. b.file ≡ file) seen touched self.old self.new }
-        ensures time { IsTrue tells → Elapses seen touched clock left_since self.old self.new }
-        ensures rises { IsTrue tells → OnOk result (clock self.old < clock self.new) }
+        ensures time { IsTrue is_known → Elapses seen touched clock left_since self.old self.new }
+        ensures rises { IsTrue is_known → OnOk result (clock self.old < clock self.new) }
         ensures cause { HasCause (faults self.old) (faults self.new) result }
         ensures reads { reads self.new ≡ reads self.old }
         ensures noted { OnOk result (Came (history self.old) (history self.new) (ACut file ∷ [])) };
 
     /// After it, a crash leaves what a read gives. A sync that fails touches nothing more.
     fn sync(&mut self) -> Result<(), DiskFailed>
-        ensures durable { IsTrue tells → OnOk result (IsSettled (touched self.new)) }
-        ensures seen { IsTrue tells → seen self.new ≡ seen self.old }
-        ensures touched { IsTrue tells → (b : Addr) → touched self.new b → touched self.old b }
-        ensures time { IsTrue tells → Elapses seen touched clock left_since self.old self.new }
-        ensures rises { IsTrue tells → OnOk result (clock self.old < clock self.new) }
+        ensures durable { IsTrue is_known → OnOk result (IsSettled (touched self.new)) }
+        ensures seen { IsTrue is_known → seen self.new ≡ seen self.old }
+        ensures touched { IsTrue is_known → (b : Addr) → touched self.new b → touched self.old b }
+        ensures time { IsTrue is_known → Elapses seen touched clock left_since self.old self.new }
+        ensures rises { IsTrue is_known → OnOk result (clock self.old < clock self.new) }
         ensures cause { HasCause (faults self.old) (faults self.new) result }
         ensures reads { reads self.new ≡ reads self.old }
         ensures noted { OnOk result (Came (history self.old) (history self.new) (ASync ∷ [])) };
 
     /// Since this moment there is no other.
-    ghost only_now: { (d : Self) (m : Image) → IsTrue tells
+    ghost only_now: { (d : Self) (m : Image) → IsTrue is_known
         → left_since d (clock d) m → IsImage (seen d) (touched d) m };
 
     /// This moment is one of those since an earlier one.
-    ghost counts_now: { (d : Self) (t : ℕ) (m : Image) → IsTrue tells
+    ghost counts_now: { (d : Self) (t : ℕ) (m : Image) → IsTrue is_known
         → t ≤ clock d → IsImage (seen d) (touched d) m → left_since d t m };
 }

@@ -19,7 +19,7 @@ pub enum Left {
     Filled(u8),
 }
 
-/// A disk in memory, which tells what it holds and keeps the list of its writes, cuts and syncs. Its
+/// A disk in memory, whose content is known and keeps the list of its writes, cuts and syncs. Its
 /// clock is their number.
 pub struct MemDisk {
     first: Vec<Call>,
@@ -147,7 +147,7 @@ impl Disk for MemDisk {
     ghost use Rattle.disk_model.specs.MemoryDisk.{state, seen_in, touched_in, clock_in, left_in, Notes, Reads};
     ghost use Rattle.disk_model.specs.LeftSinceLaws.{only_now_of, counts_now_of};
 
-    ghost tells = { true };
+    ghost is_known = { true };
 
     ghost seen = { seen_in };
 

@@ -323,7 +323,7 @@ type Forged = (
     Result<Restored, RestoreFault>,
 );
 
-const FORGED: [Forged; 14] = [
+static FORGED: [Forged; 14] = [
     (0, &[], &[], Ok(Restored::Nothing)),
     (0, NONE, OWN, Ok(Restored::Nothing)),
     (2, ONE, FIFTH, Ok(Restored::Nothing)),

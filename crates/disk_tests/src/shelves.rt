@@ -20,13 +20,13 @@ fn shelf(rt: &(impl Abort + AllocGlobal), failing: &[u64]) -> MemShelf {
 /// What a fetch of a file answers: its bytes, `none` where there is no such file, and `fault` where the call
 /// fails.
 fn fetched(rt: &(impl Abort + AllocGlobal), shelf: &mut MemShelf, name: &[u8]) -> Vec<u8> {
-    let told: &[u8] = match shelf.fetch(rt.alloc(), name) {
+    let known: &[u8] = match shelf.fetch(rt.alloc(), name) {
         Ok(Some(bytes)) => return bytes,
         Ok(None) => b"none",
         Err(ShelfFault::Failed) => b"fault",
         Err(ShelfFault::OutOfMemory) => b"no memory",
     };
-    Vec::from_slice(rt.alloc(), told).expect(rt, "memory")
+    Vec::from_slice(rt.alloc(), known).expect(rt, "memory")
 }
 
 /// Whether a fetch of each of these files answers this.

@@ -3,7 +3,7 @@ ghost use Rattle.fault_io.specs.Causes.{HasCause};
 
 use disk_model::{Addr, Disk, DiskFailed, MemDisk, Page};
 
-/// A disk over one in memory that tells nothing of what it holds. After `left` writes, cuts and
+/// A disk over one in memory of whose content nothing is known. After `left` writes, cuts and
 /// syncs each fails; a write or a cut that fails is begun all the same, so that a crash may leave it
 /// or not.
 #[derive(Drop)]
@@ -46,7 +46,7 @@ impl Stopping {
 }
 
 impl Disk for Stopping {
-    ghost tells = { false };
+    ghost is_known = { false };
 
     ghost seen = { λ _ _. None };
 
@@ -62,9 +62,9 @@ impl Disk for Stopping {
 
     ghost history = { λ _. None };
 
-    ghost only_now = { λ d m told left. absurd left };
+    ghost only_now = { λ d m known left. absurd left };
 
-    ghost counts_now = { λ d t m told le image. absurd (Prim.cc told) };
+    ghost counts_now = { λ d t m known le image. absurd (Prim.cc known) };
 
     fn read(&mut self, a: Addr, out: &mut Page) -> Result<bool, DiskFailed> {
         self.reads = self.reads.saturating_add(1);

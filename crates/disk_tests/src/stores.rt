@@ -2,7 +2,7 @@
 ghost use Rattle.std.specs.Prelude.{◌≤◌};
 
 use crate::stopping::Stopping;
-use access_traits::{PageStore, StoreFault};
+use am_traits::{PageStore, StoreFault};
 use batch_file::{RestoreFault, restore};
 use batch_store::BatchStore;
 use disk_model::{Addr, Disk, Left, MemDisk};

@@ -16,10 +16,10 @@ pub record HasShelfCause {T : Type 0} (before now : ℕ) (result : Result T Shel
 abbrev pub AreOthersKept : List ℕ → Files → Files → Type 0
 AreOthersKept name old new = (other : List ℕ) → bytes_eq other name ≡ false → fetched new other ≡ fetched old other
 
--- The files are told still, and every one but that of this name is as it was.
+-- The files are still known, and every one but that of this name is as it was.
 abbrev pub KeepsOthers : List ℕ → Files → Option Files → Type 0
-KeepsOthers name old told = (new : Files) × (told ≡ Some new) × AreOthersKept name old new
+KeepsOthers name old known = (new : Files) × (known ≡ Some new) × AreOthersKept name old new
 
--- The files are told still: as they were, or with these bytes under this name.
+-- The files are still known: as they were, or with these bytes under this name.
 abbrev pub MayHaveStored : List ℕ → List ℕ → Files → Option Files → Type 0
-MayHaveStored name bytes old told = (told ≡ Some old) ⊎ (told ≡ Some (stored old name bytes))
+MayHaveStored name bytes old known = (known ≡ Some old) ⊎ (known ≡ Some (stored old name bytes))

@@ -3,18 +3,18 @@ ghost use Rattle.std.specs.Io.{ReadsAtMost, WritesAtMost};
 ghost use Rattle.std.specs.Io.KnownBytes.{Appends, ReadConsumes, WriteAppends};
 ghost use Rattle.fault_io.specs.Causes.{CountsStall, HasCause, Rose};
 ghost use Rattle.fault_io.specs.Links.{CountsStart};
-ghost use Rattle.fault_io.specs.Told.{GrewBy, IsFront};
+ghost use Rattle.fault_io.specs.Known.{GrewBy, IsFront};
 
 use crate::traits::{Failed, SinkFault};
 
 /// Both ends of a talk with a child: its bytes are read, it is written to, and it is waited for.
 ///
-/// What is left to read and what was written is told or not, as with a `Source` and a `Sink`.
+/// What is left to read and what was written is known or not, as with a `Source` and a `Sink`.
 pub trait Link {
-    /// The bytes that are left to read, where they are told.
+    /// The bytes that are left to read, where they are known.
     ghost left: { Self → Option (List ℕ) };
 
-    /// The bytes that were written, where they are told.
+    /// The bytes that were written, where they are known.
     ghost written: { Self → Option (List ℕ) };
 
     /// How often a call has failed. The count stands still at 2^64 - 1.
@@ -39,7 +39,7 @@ pub trait Link {
         ensures cause { HasCause (faults self.old) (faults self.new) result }
         ensures stall { CountsStall (stalls self.old) (stalls self.new) result (length buf.now) };
 
-    /// Closes the side that is written to, waits for the child and answers its status. What is told
+    /// Closes the side that is written to, waits for the child and answers its status. What is known
     /// stays.
     fn finish(&mut self) -> Result<i32, Failed>
         ensures left { left self.new ≡ left self.old }
@@ -53,7 +53,7 @@ pub trait Spawner {
     /// What a child is talked with by.
     type Link: Link;
 
-    /// How many children were started, where it is told.
+    /// How many children were started, where it is known.
     ghost started: { Self → Option ℕ };
 
     /// How often a call has failed. The count stands still at 2^64 - 1.

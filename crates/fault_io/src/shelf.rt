@@ -18,9 +18,9 @@ pub enum ShelfFault {
 
 /// Where files are by their names, as a folder or a map.
 ///
-/// Its files are told or not, as with a `Source`. A name is any bytes.
+/// Its files are known or not, as with a `Source`. A name is any bytes.
 pub trait Shelf {
-    /// The files, where they are told.
+    /// The files, where they are known.
     ghost files: { Self → Option Files };
 
     /// How often a call has failed. The count stands still at 2^64 - 1.

@@ -81,7 +81,7 @@ impl<'r, R: Files> Disk for FolderDisk<'r, R>
 where
     R::File: FileExt,
 {
-    ghost tells = { false };
+    ghost is_known = { false };
 
     ghost seen = { λ _ _. None };
 
@@ -97,9 +97,9 @@ where
 
     ghost history = { λ _. None };
 
-    ghost only_now = { λ d m told left. absurd left };
+    ghost only_now = { λ d m known left. absurd left };
 
-    ghost counts_now = { λ d t m told le image. absurd (Prim.cc told) };
+    ghost counts_now = { λ d t m known le image. absurd (Prim.cc known) };
 
     fn read(&mut self, a: Addr, out: &mut Page) -> Result<bool, DiskFailed> {
         self.counts.reads = self.counts.reads.saturating_add(1);

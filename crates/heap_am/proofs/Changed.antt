@@ -12,7 +12,7 @@ use Rattle.calculus.specs.Rows.{Row, has}
 use Rattle.calculus.specs.Value.{row_cmp}
 use Rattle.calculus.proofs.Sets.{same_exact}
 use Rattle.disk_model.specs.Disk.{Image}
-use Rattle.access_traits.specs.Placed.{Placed, rows_of, rows_differ, NowHolds, Added, Removed, Replaced}
+use Rattle.am_traits.specs.Placed.{Placed, rows_of, rows_differ, NowHolds, Added, Removed, Replaced}
 use Rattle.calculus.specs.declared.schema.RelFile.{RelFile}
 use Rattle.page_cells.specs.RowBytes.{is_row, row_bytes, widths}
 use Rattle.page_chain.specs.Chains.{IsChain, numbers_from, starts}
@@ -33,8 +33,8 @@ use Rattle.heap_am.proofs.RowTests.{bytes, AreRows, among_all, among_rows, diffe
 none_placed : Place × Row
 none_placed = (record { page = 0; line = 0 }, [])
 
-same_image : {a b : Image} (told : Option Image) → told ≡ Some a → told ≡ Some b → a ≡ b
-same_image told e f = cc
+same_image : {a b : Image} (known : Option Image) → known ≡ Some a → known ≡ Some b → a ≡ b
+same_image known e f = cc
 
 -- the pages of the heap are a chain, up to its last
 pub heap_chain : (file : RelFile) (m : Image) (rows : Placed) (last : ℕ) → last + 1 ≡ file.used → heap_rows file m ≡ Some rows → IsChain file.used (pages_of m file.file) (numbers_from (suc last) 0)
@@ -63,15 +63,15 @@ heap_of_chain file m rows last is chain e =
     (ap (λ n. each (read_with (reader file.domains)) (lying (pages_of m file.file) (numbers_from n 0))) (sym used) ∙ e)
 
 -- a row was put
-pub one_added : (file now : RelFile) (m : Image) (rows : Placed) (last : ℕ) (place : Place) (row : Row) (told : Option Image)
+pub one_added : (file now : RelFile) (m : Image) (rows : Placed) (last : ℕ) (place : Place) (row : Row) (known : Option Image)
     → now.file ≡ file.file → now.domains ≡ file.domains → last + 1 ≡ file.used → place.page + 1 ≡ now.used → last ≤ place.page → heap_rows file m ≡ Some rows → IsTrue (is_row row file.domains)
-    → IsGrown file.file file.used (numbers_from last 0) last place.page (row_bytes row file.domains ∷ []) m told → IsOneMore file.file (numbers_from last 0) last place (row_bytes row file.domains) m told
-    → NowHolds (heap_rows now) told (Added rows place row)
-one_added file now m rows last place row told same ds is used le e fits grown more =
+    → IsGrown file.file file.used (numbers_from last 0) last place.page (row_bytes row file.domains ∷ []) m known → IsOneMore file.file (numbers_from last 0) last place (row_bytes row file.domains) m known
+    → NowHolds (heap_rows now) known (Added rows place row)
+one_added file now m rows last place row known same ds is used le e fits grown more =
     record {
       image = more.image;
       rows = after.vs;
-      told_still = more.told_still;
+      still_known = more.still_known;
       are = heap_of_chain now more.image after.vs place.page used chain
           (ap₂ (λ d f. each (read_with (reader d)) (lying (pages_of more.image f) (numbers_from (suc place.page) 0))) ds same
           ∙ ap (λ n. each (read_with (reader file.domains)) (lying (pages_of more.image file.file) n)) (sym (grown_numbers last place.page le)) ∙ after.read);
@@ -97,7 +97,7 @@ one_added file now m rows last place row told same ds is used le e fits grown mo
     chain =
         subst (λ n. IsChain now.used (pages_of more.image now.file) n) (grown_numbers last place.page le)
         (subst (λ g. IsChain now.used (pages_of more.image g) (numbers_from last 0 ++ numbers_to last place.page)) (sym same)
-        (subst (λ i. IsChain now.used (pages_of i file.file) (numbers_from last 0 ++ numbers_to last place.page)) (same_image told grown.told_still more.told_still)
+        (subst (λ i. IsChain now.used (pages_of i file.file) (numbers_from last 0 ++ numbers_to last place.page)) (same_image known grown.still_known more.still_known)
         (grown.chain now.used (omega arith) (omega arith))))
 
 -- rows were taken, and others put
@@ -105,12 +105,12 @@ pub rows_came : (file now : RelFile) (m : Image) (rows : Placed) (last to : ℕ)
     → now.file ≡ file.file → now.domains ≡ file.domains → last + 1 ≡ file.used → to + 1 ≡ now.used → last ≤ to → heap_rows file m ≡ Some rows → AreRows file.domains going → AreRows file.domains coming
     → ((more : ℕ) → file.used ≤ more → to < more → IsChain more (pages_of image file.file) (numbers_from last 0 ++ numbers_to last to))
     → Came (staying (map (bytes file.domains) going) (lying (pages_of m file.file) (numbers_from last 0 ++ last ∷ []))) (map (bytes file.domains) coming) (lying (pages_of image file.file) (numbers_from last 0 ++ numbers_to last to))
-    → (told : Option Image) → told ≡ Some image → NowHolds (heap_rows now) told (Replaced rows going coming)
-rows_came file now m rows last to going coming image same ds is used le e go co chains came told there =
+    → (known : Option Image) → known ≡ Some image → NowHolds (heap_rows now) known (Replaced rows going coming)
+rows_came file now m rows last to going coming image same ds is used le e go co chains came known there =
     record {
       image = image;
       rows = after.vs;
-      told_still = there;
+      still_known = there;
       are = heap_of_chain now image after.vs to used chain
           (ap₂ (λ d f. each (read_with (reader d)) (lying (pages_of image f) (numbers_from (suc to) 0))) ds same
           ∙ ap (λ n. each (read_with (reader file.domains)) (lying (pages_of image file.file) n)) (sym (grown_numbers last to le)) ∙ after.read);
@@ -185,9 +185,9 @@ are_there file m rows last going as_bytes is e go old d once lie =
     (ap (λ b. list_all (is_among b) (map (bytes file.domains) going)) (sym l.same) ∙ subst (λ b. list_all (is_among (bytes_of xs)) b ≡ true) old there)
 
 -- a row was taken, or isn't there
-pub one_removed : (file : RelFile) (m : Image) (rows : Placed) (last : ℕ) (place : Option Place) (row : Row) (told : Option Image) → last + 1 ≡ file.used → heap_rows file m ≡ Some rows → IsTrue (is_row row file.domains)
-    → TookOne file.file file.used (numbers_from (suc last) 0) (row_bytes row file.domains) place m told → NowHolds (heap_rows file) told (Removed rows place row)
-one_removed file m rows last place row told is e fits took = by_place place took.took
+pub one_removed : (file : RelFile) (m : Image) (rows : Placed) (last : ℕ) (place : Option Place) (row : Row) (known : Option Image) → last + 1 ≡ file.used → heap_rows file m ≡ Some rows → IsTrue (is_row row file.domains)
+    → TookOne file.file file.used (numbers_from (suc last) 0) (row_bytes row file.domains) place m known → NowHolds (heap_rows file) known (Removed rows place row)
+one_removed file m rows last place row known is e fits took = by_place place took.took
   where
     f : Place × List ℕ → Option (Place × Row)
     f = read_with (reader file.domains)
@@ -198,10 +198,10 @@ one_removed file m rows last place row told is e fits took = by_place place took
     later : Lying
     later = lying (pages_of took.image file.file) (numbers_from (suc last) 0)
 
-    holds : (place : Option Place) (after : Placed) → each f later ≡ Some after → Removed rows place row after → NowHolds (heap_rows file) told (Removed rows place row)
-    holds place after read so = record { image = took.image; rows = after; told_still = took.told_still; are = heap_of_chain file took.image after last is took.chain read; so = so }
+    holds : (place : Option Place) (after : Placed) → each f later ≡ Some after → Removed rows place row after → NowHolds (heap_rows file) known (Removed rows place row)
+    holds place after read so = record { image = took.image; rows = after; still_known = took.still_known; are = heap_of_chain file took.image after last is took.chain read; so = so }
 
-    by_place : (place : Option Place) → WentFrom place (row_bytes row file.domains) before later → NowHolds (heap_rows file) told (Removed rows place row)
+    by_place : (place : Option Place) → WentFrom place (row_bytes row file.domains) before later → NowHolds (heap_rows file) known (Removed rows place row)
     by_place None h =
         let l = lain file.domains before rows (heap_read file m rows last is e) in
         holds None rows (ap (each f) h.1 ∙ heap_read file m rows last is e)
@@ -227,14 +227,14 @@ no_such_row file m rows last row is e unfit =
     none_is (r ∷ all) are = ap₂ (λ a b. a || b) (by_test r (eq_by_cmp row_cmp row r) refl (are 0 r (omega arith))) (none_is all (λ k d lt. are (suc k) d (omega arith)))
 
 -- the file was made anew
-pub rows_built : (file : RelFile) (rows : List Row) (told : Option Image) → 0 < file.used → AreRows file.domains rows → IsBuilt file.file file.used (map (bytes file.domains) rows) told → NowHolds (heap_rows file) told (λ placed. rows_of placed ≡ rows)
-rows_built file rows told some all built =
+pub rows_built : (file : RelFile) (rows : List Row) (known : Option Image) → 0 < file.used → AreRows file.domains rows → IsBuilt file.file file.used (map (bytes file.domains) rows) known → NowHolds (heap_rows file) known (λ placed. rows_of placed ≡ rows)
+rows_built file rows known some all built =
     let r = read_as file.domains (lying (pages_of built.image file.file) (numbers_from file.used 0)) rows all built.bytes in
     let last : suc (file.used - 1) ≡ file.used = omega arith in
     record {
       image = built.image;
       rows = r.placed;
-      told_still = built.told_still;
+      still_known = built.still_known;
       are = heap_of_chain file built.image r.placed (file.used - 1) (omega arith) (subst (λ n. IsChain file.used (pages_of built.image file.file) (numbers_from n 0)) (sym last) built.chain)
           (ap (λ n. each (read_with (reader file.domains)) (lying (pages_of built.image file.file) (numbers_from n 0))) last ∙ r.read);
       so = r.are;
@@ -244,24 +244,24 @@ pub starts_at_0 : (last : ℕ) → starts (numbers_from last 0 ++ last ∷ []) �
 starts_at_0 last = ap starts (last_number last)
 
 -- rows were put behind the others
-pub rows_extended : (file now : RelFile) (m : Image) (rows : Placed) (to : ℕ) (coming : List Row) (as_bytes : List (List ℕ)) (told : Option Image)
+pub rows_extended : (file now : RelFile) (m : Image) (rows : Placed) (to : ℕ) (coming : List Row) (as_bytes : List (List ℕ)) (known : Option Image)
     → now.file ≡ file.file → now.domains ≡ file.domains → 0 < file.used → to + 1 ≡ now.used → file.used - 1 ≤ to → heap_rows file m ≡ Some rows → AreRows file.domains coming → as_bytes ≡ map (bytes file.domains) coming
-    → IsGrown file.file file.used (numbers_from (file.used - 1) 0) (file.used - 1) to as_bytes m told → NowHolds (heap_rows now) told (Replaced rows [] coming)
-rows_extended file now m rows to coming as_bytes told same ds some used le e co are grown =
+    → IsGrown file.file file.used (numbers_from (file.used - 1) 0) (file.used - 1) to as_bytes m known → NowHolds (heap_rows now) known (Replaced rows [] coming)
+rows_extended file now m rows to coming as_bytes known same ds some used le e co are grown =
     rows_came file now m rows (file.used - 1) to [] coming grown.image same ds (omega arith) used le e (λ k d lt. absurd (omega arith)) co grown.chain
     (record { new = grown.came.new; bytes = grown.came.bytes ∙ are; all = subst (λ l. IsPermutation (lying (pages_of grown.image file.file) (numbers_from (file.used - 1) 0 ++ numbers_to (file.used - 1) to)) (l ++ grown.came.new)) (sym (all_stay (lying (pages_of m file.file) (numbers_from (file.used - 1) 0 ++ (file.used - 1) ∷ [])))) grown.came.all })
-    told grown.told_still
+    known grown.still_known
 
 -- rows were taken, and others put
-pub rows_renewed : (file now : RelFile) (m : Image) (rows : Placed) (to : ℕ) (going coming : List Row) (old_bytes new_bytes : List (List ℕ)) (told : Option Image)
+pub rows_renewed : (file now : RelFile) (m : Image) (rows : Placed) (to : ℕ) (going coming : List Row) (old_bytes new_bytes : List (List ℕ)) (known : Option Image)
     → now.file ≡ file.file → now.domains ≡ file.domains → 0 < file.used → to + 1 ≡ now.used → file.used - 1 ≤ to → heap_rows file m ≡ Some rows
     → AreRows file.domains going → old_bytes ≡ map (bytes file.domains) going → AreRows file.domains coming → new_bytes ≡ map (bytes file.domains) coming
-    → IsRenewed file.file file.used (numbers_from (file.used - 1) 0) (file.used - 1) to old_bytes new_bytes m told → NowHolds (heap_rows now) told (Replaced rows going coming)
-rows_renewed file now m rows to going coming old_bytes new_bytes told same ds some used le e go old co new renewed =
+    → IsRenewed file.file file.used (numbers_from (file.used - 1) 0) (file.used - 1) to old_bytes new_bytes m known → NowHolds (heap_rows now) known (Replaced rows going coming)
+rows_renewed file now m rows to going coming old_bytes new_bytes known same ds some used le e go old co new renewed =
     rows_came file now m rows (file.used - 1) to going coming renewed.image same ds (omega arith) used le e go co renewed.chain
     (subst (λ a. Came (staying a (lying (pages_of m file.file) (numbers_from (file.used - 1) 0 ++ (file.used - 1) ∷ []))) (map (bytes file.domains) coming) (lying (pages_of renewed.image file.file) (numbers_from (file.used - 1) 0 ++ numbers_to (file.used - 1) to))) old
     (subst (λ b. Came (staying old_bytes (lying (pages_of m file.file) (numbers_from (file.used - 1) 0 ++ (file.used - 1) ∷ []))) b (lying (pages_of renewed.image file.file) (numbers_from (file.used - 1) 0 ++ numbers_to (file.used - 1) to))) new renewed.came))
-    told renewed.told_still
+    known renewed.still_known
 
 -- ---- the bytes of rows
 

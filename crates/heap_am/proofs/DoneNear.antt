@@ -7,7 +7,7 @@ use Rattle.std.specs.List.{AllByRecursion, list_all}
 use Rattle.std.specs.List.Sorted.{IsPermutation}
 use Rattle.disk_model.specs.Disk.{Image}
 use Rattle.disk_model.specs.declared.disk.Addr.{Addr}
-use Rattle.access_traits.specs.Causes.{IsAtFault}
+use Rattle.am_traits.specs.Causes.{IsAtFault}
 use Rattle.calculus.specs.declared.schema.RelFile.{RelFile}
 use Rattle.page_chain.specs.Chains.{IsChain, OffPage, numbers_from}
 use Rattle.page_chain.specs.Grown.{IsGrown, numbers_to}
@@ -30,11 +30,11 @@ use Rattle.heap_am.proofs.Rising.{Apart, apart, all_map, all_parts, filtered_apa
 -- ---- page by page
 
 -- on no page nothing is done
-pub done_nowhere : (file bound : ℕ) (going : List (List ℕ)) (before : Image) (told : Option Image) → told ≡ Some before → IsDoneOn file bound [] going [] before told
+pub done_nowhere : (file bound : ℕ) (going : List (List ℕ)) (before : Image) (known : Option Image) → known ≡ Some before → IsDoneOn file bound [] going [] before known
 unfolding lying
-done_nowhere file bound going before told is = record {
+done_nowhere file bound going before known is = record {
   image = before;
-  told_still = is;
+  still_known = is;
   elsewhere = λ b other. refl;
   links = λ k. refl;
   others = λ k other. refl;
@@ -51,11 +51,11 @@ came_alone n going coming before now came =
     (subst (λ rows. Came (staying going (lying_on n (before n))) coming rows) (sym (alone now n)) came)
 
 -- a page was put
-pub done_put : (file bound page : ℕ) (going coming : List (List ℕ)) (gone next : ℕ) (before : Image) (told : Option Image) → PageRenewed file bound page going coming gone next before told
-    → IsDoneOn file bound (page ∷ []) going coming before told
-done_put file bound page going coming gone next before told here = record {
+pub done_put : (file bound page : ℕ) (going coming : List (List ℕ)) (gone next : ℕ) (before : Image) (known : Option Image) → PageRenewed file bound page going coming gone next before known
+    → IsDoneOn file bound (page ∷ []) going coming before known
+done_put file bound page going coming gone next before known here = record {
   image = here.image;
-  told_still = here.told_still;
+  still_known = here.still_known;
   elsewhere = λ b other. here.elsewhere b (λ same. other (ap (λ (b : Addr). b.file) same));
   links = λ k. elim (one_or_other k page) [
     | inl same ↦ subst (λ j. next_of bound j (here.image (page_at file j)) ≡ next_of bound j (before (page_at file j))) (sym same) (here.goes_on_still ∙ sym here.goes_on)
@@ -66,11 +66,11 @@ done_put file bound page going coming gone next before told here = record {
 }
 
 -- no row of a page went
-pub done_not : (file bound page : ℕ) (going coming : List (List ℕ)) (p q : List ℕ) (before : Image) (told : Option Image) → told ≡ Some before → before (page_at file page) ≡ Some p → q ≡ p
-    → ((n : ℕ) → Came (staying going (lying_on n (Some p))) coming (lying_on n (Some q))) → IsDoneOn file bound (page ∷ []) going coming before told
-done_not file bound page going coming p q before told is there same came = record {
+pub done_not : (file bound page : ℕ) (going coming : List (List ℕ)) (p q : List ℕ) (before : Image) (known : Option Image) → known ≡ Some before → before (page_at file page) ≡ Some p → q ≡ p
+    → ((n : ℕ) → Came (staying going (lying_on n (Some p))) coming (lying_on n (Some q))) → IsDoneOn file bound (page ∷ []) going coming before known
+done_not file bound page going coming p q before known is there same came = record {
   image = before;
-  told_still = is;
+  still_known = is;
   elsewhere = λ b other. refl;
   links = λ k. refl;
   others = λ k other. refl;
@@ -81,12 +81,12 @@ done_not file bound page going coming p q before told is there same came = recor
 }
 
 -- one page more
-pub done_more : (file bound : ℕ) (first : List ℕ) (n : ℕ) (going coming more : List (List ℕ)) (before : Image) (between told : Option Image)
-    → (one : IsDoneOn file bound first going coming before between) → IsDoneOn file bound (n ∷ []) going more one.image told → AllByRecursion (λ k. k ≡ n → ⊥) first
-    → IsDoneOn file bound (first ++ n ∷ []) going (coming ++ more) before told
-done_more file bound first n going coming more before between told one two new = record {
+pub done_more : (file bound : ℕ) (first : List ℕ) (n : ℕ) (going coming more : List (List ℕ)) (before : Image) (between known : Option Image)
+    → (one : IsDoneOn file bound first going coming before between) → IsDoneOn file bound (n ∷ []) going more one.image known → AllByRecursion (λ k. k ≡ n → ⊥) first
+    → IsDoneOn file bound (first ++ n ∷ []) going (coming ++ more) before known
+done_more file bound first n going coming more before between known one two new = record {
   image = two.image;
-  told_still = two.told_still;
+  still_known = two.still_known;
   elsewhere = λ b other. two.elsewhere b other ∙ one.elsewhere b other;
   links = λ k. two.links k ∙ one.links k;
   others = λ k other. let parts = all_parts (λ j. j ≡ k → ⊥) first (n ∷ []) other in two.others k parts.1 ∙ one.others k parts.0;
@@ -140,11 +140,11 @@ came_moved before before' now now' coming came old new = record {
 }
 
 -- where all rows that are to go lie on some pages, what was done on them was done on all
-came_on_all : (file bound first : ℕ) (numbers done : List ℕ) (going coming : List (List ℕ)) (before : Image) (told : Option Image) → (its : IsDoneOn file bound done going coming before told)
+came_on_all : (file bound first : ℕ) (numbers done : List ℕ) (going coming : List (List ℕ)) (before : Image) (known : Option Image) → (its : IsDoneOn file bound done going coming before known)
     → Apart first numbers done → length going + length (staying going (lying (pages_of before file) done)) ≡ length (lying (pages_of before file) done) → AllLie (pages_of before file) numbers going
     → Came (staying going (lying (pages_of before file) numbers)) coming (lying (pages_of its.image file) numbers)
 unfolding lying
-came_on_all file bound first numbers done going coming before told its split all lie =
+came_on_all file bound first numbers done going coming before known its split all lie =
     came_moved (staying going (lying old done) ++ lying old split.rest) (staying going (lying old numbers)) (lying now done ++ lying now split.rest) (lying now numbers) coming
     (subst (λ rows. Came (staying going (lying old done) ++ lying old split.rest) coming (lying now done ++ rows)) (sym rest_same)
     (subst (λ rows. Came (staying going (lying old done) ++ lying old split.rest) rows (lying now done ++ lying old split.rest)) (append-nil coming)
@@ -173,11 +173,11 @@ came_on_all file bound first numbers done going coming before told its split all
     rest_stays = (none_left (length going) going (lying old done) (lying old split.rest) all (omega arith) counted).stay
 
 -- where as many went from some pages as are to go, all that are to go lie on the chain
-pub near_all : (file bound last : ℕ) (going coming : List (List ℕ)) (before : Image) (told : Option Image) → IsDoneNear file bound going coming before told → last + 1 ≡ bound
+pub near_all : (file bound last : ℕ) (going coming : List (List ℕ)) (before : Image) (known : Option Image) → IsDoneNear file bound going coming before known → last + 1 ≡ bound
     → all_differ (bytes_of (lying (pages_of before file) (numbers_from last 0 ++ last ∷ []))) ≡ true → all_differ going ≡ true
     → list_all (is_among (bytes_of (lying (pages_of before file) (numbers_from last 0 ++ last ∷ [])))) going ≡ true
 unfolding lying
-near_all file bound last going coming before told its is differ once =
+near_all file bound last going coming before known its is differ once =
     let old = pages_of before file in
     let all = numbers_from last 0 ++ last ∷ [] in
     let split = subst (λ numbers. Apart 0 numbers its.numbers) (sym (last_number last)) (apart (suc last) 0 bound its.numbers (omega (arith, is)) its.rising) in
@@ -188,18 +188,18 @@ near_all file bound last going coming before told its is differ once =
     all_counted going (lying old all) differ once (omega (arith, here, sum, parts))
 
 -- rows went and others came there, and then the rest came behind
-pub renewed_near : (file bound last now : ℕ) (going coming : List (List ℕ)) (put : ℕ) (before : Image) (between told : Option Image)
+pub renewed_near : (file bound last now : ℕ) (going coming : List (List ℕ)) (put : ℕ) (before : Image) (between known : Option Image)
     → (its : IsDoneNear file bound going (take put coming) before between) → last + 1 ≡ bound → IsChain bound (pages_of before file) (numbers_from last 0 ++ last ∷ [])
     → AllLie (pages_of before file) (numbers_from last 0 ++ last ∷ []) going
-    → (IsChain bound (pages_of its.done.image file) (numbers_from last 0 ++ last ∷ []) → IsGrown file bound (numbers_from last 0) last now (drop put coming) its.done.image told)
-    → IsRenewed file bound (numbers_from last 0) last now going coming before told
-renewed_near file bound last now going coming put before between told its is chain lie grows =
+    → (IsChain bound (pages_of its.done.image file) (numbers_from last 0 ++ last ∷ []) → IsGrown file bound (numbers_from last 0) last now (drop put coming) its.done.image known)
+    → IsRenewed file bound (numbers_from last 0) last now going coming before known
+renewed_near file bound last now going coming put before between known its is chain lie grows =
     let all = numbers_from last 0 ++ last ∷ [] in
     let grown = grows (chain_kept bound (pages_of before file) (pages_of its.done.image file) all its.done.links chain) in
     let split = subst (λ numbers. Apart 0 numbers its.numbers) (sym (last_number last)) (apart (suc last) 0 bound its.numbers (omega (arith, is)) its.rising) in
     record {
       image = grown.image;
-      told_still = grown.told_still;
+      still_known = grown.still_known;
       chain = grown.chain;
       came =
           subst (λ rows. Came (staying going (lying (pages_of before file) all)) rows (lying (pages_of grown.image file) (numbers_from last 0 ++ numbers_to last now))) (take-append-drop put coming)
@@ -222,7 +222,7 @@ pub off_next : (file : RelFile) (n : ℕ) (numbers : List ℕ) (going coming : L
     → (a : Addr) → IsAtFault mid (OffPage file.file n file.used) a → IsAtFault old (HeapFault file) a
 off_next file n numbers going coming old mid lt done a fault m is =
     let its = done m is in
-    off_before file n m its.image a lt (its.links n) (fault its.image its.told_still)
+    off_before file n m its.image a lt (its.links n) (fault its.image its.still_known)
 
 pub off_rest : (file : RelFile) (going coming : List (List ℕ)) (old mid : Option Image) → 0 < file.used → ((m : Image) → old ≡ Some m → IsDoneNear file.file file.used going coming m mid)
     → (a : Addr) → IsAtFault mid (OffPage file.file (file.used - 1) (file.used - 1 + 1)) a → IsAtFault old (HeapFault file) a
@@ -230,4 +230,4 @@ off_rest file going coming old mid some done a fault m is =
     let its = (done m is).done in
     let e : file.used - 1 + 1 ≡ file.used = omega arith in
     off_before file (file.used - 1) m its.image a (omega arith) (its.links (file.used - 1))
-    (subst (λ b. OffPage file.file (file.used - 1) b its.image a) e (fault its.image its.told_still))
+    (subst (λ b. OffPage file.file (file.used - 1) b its.image a) e (fault its.image its.still_known))

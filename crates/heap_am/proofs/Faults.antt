@@ -7,10 +7,10 @@ use Rattle.calculus.specs.declared.value.Domain.{Domain}
 use Rattle.calculus.specs.Rows.{Row}
 use Rattle.disk_model.specs.Disk.{Image}
 use Rattle.disk_model.specs.declared.disk.Addr.{Addr}
-use Rattle.am_traits.specs.declared.fault.BaseFault.{BaseFault}
-use Rattle.am_traits.specs.declared.fault.BaseFault.TheVariants.{Disk, Damaged, OutOfMemory}
-use Rattle.access_traits.specs.Causes.{MayFail, HasFileCause}
-use Rattle.access_traits.specs.Placed.{Placed, row_with, is_place}
+use Rattle.base_trait.specs.declared.fault.BaseFault.{BaseFault}
+use Rattle.base_trait.specs.declared.fault.BaseFault.TheVariants.{Disk, Damaged, OutOfMemory}
+use Rattle.am_traits.specs.Causes.{MayFail, HasFileCause}
+use Rattle.am_traits.specs.Placed.{Placed, row_with, is_place}
 use Rattle.calculus.specs.declared.schema.RelFile.{RelFile}
 use Rattle.page_cells.specs.Page.{Slot, slots}
 use Rattle.page_cells.specs.RowBytes.{is_row, row_bytes}
@@ -121,44 +121,44 @@ of_page file k l p bytes (Damaged f n) lt at h = λ m is. subst (HeapFault file 
 of_page file k l p bytes OutOfMemory lt at h = tt
 
 -- the fault of a page may come
-pub may_come : (file : RelFile) (k : ℕ) (p : List ℕ) (told : Option Image) (before now : ℕ) (fault : BaseFault) → now ≡ before → ((m : Image) → told ≡ Some m → m (page_at file.file k) ≡ Some p) → IsOfPage file k p fault → MayFail told (HeapFault file) before now fault
-may_come file k p told before now Disk calm there h = absurd h
-may_come file k p told before now (Damaged f n) calm there h = (λ m e. h m (there m e), calm)
-may_come file k p told before now OutOfMemory calm there h = calm
+pub may_come : (file : RelFile) (k : ℕ) (p : List ℕ) (known : Option Image) (before now : ℕ) (fault : BaseFault) → now ≡ before → ((m : Image) → known ≡ Some m → m (page_at file.file k) ≡ Some p) → IsOfPage file k p fault → MayFail known (HeapFault file) before now fault
+may_come file k p known before now Disk calm there h = absurd h
+may_come file k p known before now (Damaged f n) calm there h = (λ m e. h m (there m e), calm)
+may_come file k p known before now OutOfMemory calm there h = calm
 
 -- ---- causes
 
 -- the same fault, where what is at fault for one call is at fault for the other
-pub cause_by : {T U : Type 0} {told : Option Image} {P : Image → Addr → Type 0} (Q : Image → Addr → Type 0) {before now : ℕ} (s : Result U BaseFault) (e : BaseFault)
-    → ((m : Image) (a : Addr) → P m a → Q m a) → HasFileCause {T = T} told P before now (Err e) → s ≡ Err e → HasFileCause {T = U} told Q before now s
-cause_by {told = told} {P = P} Q {before = before} {now = now} s e f h is = subst (HasFileCause told Q before now) (sym is) (record { later = h.later; caused = by_fault e h.caused })
+pub cause_by : {T U : Type 0} {known : Option Image} {P : Image → Addr → Type 0} (Q : Image → Addr → Type 0) {before now : ℕ} (s : Result U BaseFault) (e : BaseFault)
+    → ((m : Image) (a : Addr) → P m a → Q m a) → HasFileCause {T = T} known P before now (Err e) → s ≡ Err e → HasFileCause {T = U} known Q before now s
+cause_by {known = known} {P = P} Q {before = before} {now = now} s e f h is = subst (HasFileCause known Q before now) (sym is) (record { later = h.later; caused = by_fault e h.caused })
   where
-    by_fault : (e : BaseFault) → MayFail told P before now e → MayFail told Q before now e
+    by_fault : (e : BaseFault) → MayFail known P before now e → MayFail known Q before now e
     by_fault Disk h = h
     by_fault (Damaged file page) h = (λ m e. f m (record { file = file; page = page }) (h.0 m e), h.1)
     by_fault OutOfMemory h = h
 
 -- damage at a page that is at fault
-pub cause_damaged : {T : Type 0} (told : Option Image) (file : RelFile) (k before now : ℕ) (e : BaseFault) → e ≡ Damaged file.file k → now ≡ before
-    → ((m : Image) → told ≡ Some m → HeapFault file m (page_at file.file k)) → HasFileCause {T = T} told (HeapFault file) before now (Err e)
-cause_damaged told file k before now e is calm f = record { later = omega (arith, calm); caused = subst (MayFail told (HeapFault file) before now) (sym is) (f, calm) }
+pub cause_damaged : {T : Type 0} (known : Option Image) (file : RelFile) (k before now : ℕ) (e : BaseFault) → e ≡ Damaged file.file k → now ≡ before
+    → ((m : Image) → known ≡ Some m → HeapFault file m (page_at file.file k)) → HasFileCause {T = T} known (HeapFault file) before now (Err e)
+cause_damaged known file k before now e is calm f = record { later = omega (arith, calm); caused = subst (MayFail known (HeapFault file) before now) (sym is) (f, calm) }
 
 -- the fault of a page that was read
-pub cause_of_page : {T : Type 0} (told : Option Image) (file : RelFile) (k : ℕ) (p : List ℕ) (before now : ℕ) (r : Result T BaseFault) → now ≡ before
-    → ((m : Image) → told ≡ Some m → m (page_at file.file k) ≡ Some p) → IfErr r (IsOfPage file k p) → HasFileCause told (HeapFault file) before now r
-cause_of_page told file k p before now (Ok x) calm there h = record { later = omega (arith, calm); caused = calm }
-cause_of_page told file k p before now (Err e) calm there h = record { later = omega (arith, calm); caused = may_come file k p told before now e calm there h }
+pub cause_of_page : {T : Type 0} (known : Option Image) (file : RelFile) (k : ℕ) (p : List ℕ) (before now : ℕ) (r : Result T BaseFault) → now ≡ before
+    → ((m : Image) → known ≡ Some m → m (page_at file.file k) ≡ Some p) → IfErr r (IsOfPage file k p) → HasFileCause known (HeapFault file) before now r
+cause_of_page known file k p before now (Ok x) calm there h = record { later = omega (arith, calm); caused = calm }
+cause_of_page known file k p before now (Err e) calm there h = record { later = omega (arith, calm); caused = may_come file k p known before now e calm there h }
 
 rose_before : (before later now : ℕ) → later ≡ before → Rose later now → Rose before now
 rose_before before later now calm = subst (λ n. Rose n now) calm
 
 -- the fault of a later call, where those before it answered
-pub cause_later : {T U : Type 0} (told since : Option Image) (P : Image → Addr → Type 0) (before later now : ℕ) (s : Result U BaseFault) (e : BaseFault)
-    → since ≡ told → later ≡ before → HasFileCause {T = T} since P later now (Err e) → s ≡ Err e → HasFileCause {T = U} told P before now s
-cause_later told since P before later now s e same calm h is =
-    subst (HasFileCause told P before now) (sym is) (record { later = omega (arith, calm, h.later); caused = by_fault e h.caused })
+pub cause_later : {T U : Type 0} (known since : Option Image) (P : Image → Addr → Type 0) (before later now : ℕ) (s : Result U BaseFault) (e : BaseFault)
+    → since ≡ known → later ≡ before → HasFileCause {T = T} since P later now (Err e) → s ≡ Err e → HasFileCause {T = U} known P before now s
+cause_later known since P before later now s e same calm h is =
+    subst (HasFileCause known P before now) (sym is) (record { later = omega (arith, calm, h.later); caused = by_fault e h.caused })
   where
-    by_fault : (e : BaseFault) → MayFail since P later now e → MayFail told P before now e
+    by_fault : (e : BaseFault) → MayFail since P later now e → MayFail known P before now e
     by_fault Disk h = rose_before before later now calm h
     by_fault (Damaged file page) h = (λ m e. h.0 m (same ∙ e), h.1 ∙ calm)
     by_fault OutOfMemory h = h ∙ calm
@@ -219,7 +219,7 @@ no_chain_to file m a some h = record {
         cc
 
 -- the same answer, where what is at fault for one call is at fault for the other
-pub cause_any : {T : Type 0} {told : Option Image} {P : Image → Addr → Type 0} (Q : Image → Addr → Type 0) {before now : ℕ} (r : Result T BaseFault)
-    → ((m : Image) (a : Addr) → P m a → Q m a) → HasFileCause told P before now r → HasFileCause told Q before now r
+pub cause_any : {T : Type 0} {known : Option Image} {P : Image → Addr → Type 0} (Q : Image → Addr → Type 0) {before now : ℕ} (r : Result T BaseFault)
+    → ((m : Image) (a : Addr) → P m a → Q m a) → HasFileCause known P before now r → HasFileCause known Q before now r
 cause_any Q (Ok x) f h = record { later = h.later; caused = h.caused }
 cause_any Q (Err e) f h = cause_by Q (Err e) e f h refl

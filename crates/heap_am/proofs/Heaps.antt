@@ -7,7 +7,7 @@ use Rattle.std.specs.Option.{option_or}
 use Rattle.calculus.specs.declared.probe.Place.{Place}
 use Rattle.calculus.specs.Rows.{Row}
 use Rattle.disk_model.specs.Disk.{Image}
-use Rattle.access_traits.specs.Placed.{Placed, rows_of, row_with, rows_from, is_place, is_from}
+use Rattle.am_traits.specs.Placed.{Placed, rows_of, row_with, rows_from, is_place, is_from}
 use Rattle.calculus.specs.declared.schema.RelFile.{RelFile}
 use Rattle.page_cells.specs.Page.{Slot, slots}
 use Rattle.page_chain.specs.Chains.{whole_chain, numbers_from}

@@ -3,7 +3,7 @@ use Rattle.std.proofs.Common.{◌≡◌, refl, sym, ap, subst, ◌∙◌, ℕ, z
 use Rattle.std.proofs.lemmas.Grind.{flat_map-append}
 use Rattle.calculus.specs.declared.probe.Place.{Place}
 use Rattle.calculus.specs.Rows.{Row}
-use Rattle.access_traits.specs.Placed.{Placed, is_place}
+use Rattle.am_traits.specs.Placed.{Placed, is_place}
 use Rattle.page_cells.specs.Page.{Slot, slots}
 use Rattle.page_chain.specs.Chains.{numbers_from}
 use Rattle.page_chain.specs.Lists.{each, ◌>>=◌}

@@ -4,8 +4,8 @@ use Rattle.calculus.specs.declared.probe.Place.{Place}
 use Rattle.calculus.specs.declared.probe.Probe.{Probe}
 use Rattle.calculus.specs.Rows.{Row}
 use Rattle.disk_model.specs.Disk.{Image}
-use Rattle.am_traits.specs.Scans.{meets, next_meeting}
-use Rattle.access_traits.specs.Placed.{Placed, rows_of, row_with, rows_from}
+use Rattle.base_trait.specs.Scans.{meets, next_meeting}
+use Rattle.am_traits.specs.Placed.{Placed, rows_of, row_with, rows_from}
 use Rattle.calculus.specs.declared.schema.RelFile.{RelFile}
 use Rattle.page_cells.specs.Page.{slots, slots_before, lines, row_at}
 use Rattle.page_chain.specs.Lying.{place_of}

@@ -2,7 +2,7 @@
 use Rattle.std.proofs.Common.{◌≡◌, ◌⊎◌, inl, inr, refl, sym, ap, ap₂, ◌∙◌, ◌+◌, ◌<◌, ◌≤◌, Bool, true, false, List, [], ◌∷◌, ◌++◌, filter, find, Option, Some, None, arith, if◌then◌else◌}
 use Rattle.std.proofs.lemmas.Bool.Decides.{nat_tests}
 use Rattle.calculus.specs.declared.probe.Place.{Place}
-use Rattle.access_traits.specs.Placed.{is_place, is_from}
+use Rattle.am_traits.specs.Placed.{is_place, is_from}
 
 -- the place of the next line
 abbrev pub next_line : Place → Place
@@ -12,8 +12,8 @@ next_line at = record { page = at.page; line = at.line + 1 }
 abbrev pub From : Place → Place → Type 0
 From a b = (a.page < b.page) ⊎ ((a.page ≡ b.page) × (a.line ≤ b.line))
 
-pub from_tells : (a b : Place) → is_from a b ≡ true → From a b
-from_tells a b e = grind (arith, nat_tests)
+pub from_decides : (a b : Place) → is_from a b ≡ true → From a b
+from_decides a b e = grind (arith, nat_tests)
 
 pub from_holds : (a b : Place) → From a b → is_from a b ≡ true
 from_holds a b h = grind (arith, nat_tests)

@@ -12,7 +12,7 @@ use Rattle.calculus.specs.Orders.{row_total}
 use Rattle.calculus.specs.Rows.{Row, has}
 use Rattle.calculus.specs.Value.{row_cmp}
 use Rattle.calculus.proofs.Sets.{same_exact}
-use Rattle.access_traits.specs.Placed.{Placed, rows_of, rows_differ}
+use Rattle.am_traits.specs.Placed.{Placed, rows_of, rows_differ}
 use Rattle.page_cells.specs.RowBytes.{is_row, row_bytes}
 use Rattle.page_chain.specs.Lists.{each}
 use Rattle.page_chain.specs.Lying.{Lying, bytes_of, is_among, all_differ}

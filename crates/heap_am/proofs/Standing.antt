@@ -3,7 +3,7 @@ use Rattle.std.proofs.Common.{◌≡◌, ◌⊎◌, inl, inr, refl, ℕ, zero, s
 use Rattle.std.proofs.lemmas.Bool.Decides.{nat_tests}
 use Rattle.calculus.specs.Rows.{Row}
 use Rattle.disk_model.specs.Disk.{Image}
-use Rattle.access_traits.specs.Placed.{Placed}
+use Rattle.am_traits.specs.Placed.{Placed}
 use Rattle.calculus.specs.declared.schema.RelFile.{RelFile}
 use Rattle.page_cells.specs.Page.{Slot, slots, lines}
 use Rattle.page_chain.specs.Chains.{numbers_from}

@@ -2,11 +2,11 @@
 use Rattle.std.specs.Prelude.{◌≡◌, ℕ, suc, ◌-◌, ◌==◌, ◌&&◌, nat_lt, Bool, true, false, List, Option, Some, None, is_some, if◌then◌else◌}
 use Rattle.calculus.specs.declared.probe.Place.{Place}
 use Rattle.calculus.specs.Rows.{Row}
-use Rattle.am_traits.specs.declared.fault.BaseFault.{BaseFault}
-use Rattle.am_traits.specs.declared.fault.BaseFault.TheVariants.{Disk, Damaged, OutOfMemory}
+use Rattle.base_trait.specs.declared.fault.BaseFault.{BaseFault}
+use Rattle.base_trait.specs.declared.fault.BaseFault.TheVariants.{Disk, Damaged, OutOfMemory}
 use Rattle.disk_model.specs.Disk.{Image, is_at}
 use Rattle.disk_model.specs.declared.disk.Addr.{Addr}
-use Rattle.access_traits.specs.Placed.{Placed}
+use Rattle.am_traits.specs.Placed.{Placed}
 use Rattle.calculus.specs.declared.schema.RelFile.{RelFile}
 use Rattle.page_cells.specs.Page.{Slot}
 use Rattle.page_chain.specs.Lists.{each}

@@ -5,8 +5,8 @@ use Rattle.std.proofs.Math.Nat.{sub-le, le_trans}
 use Rattle.std.proofs.lemmas.Option.{none-some}
 use Rattle.disk_model.specs.Disk.{Image}
 use Rattle.disk_model.specs.declared.disk.Addr.{Addr}
-use Rattle.am_traits.specs.Scans.{first_place}
-use Rattle.access_traits.specs.Placed.{Placed}
+use Rattle.base_trait.specs.Scans.{first_place}
+use Rattle.am_traits.specs.Placed.{Placed}
 use Rattle.calculus.specs.declared.schema.RelFile.{RelFile}
 use Rattle.page_chain.specs.Pages.{page_at}
 use Rattle.page_chain.specs.Rows.{placed_on, reader}

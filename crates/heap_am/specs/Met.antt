@@ -3,8 +3,8 @@ use Rattle.std.specs.Prelude.{◌≡◌, ℕ, ◌+◌, List, Option, Some, None,
 use Rattle.calculus.specs.Rows.{Row}
 use Rattle.calculus.specs.declared.probe.Place.{Place}
 use Rattle.calculus.specs.declared.probe.Probe.{Probe}
-use Rattle.am_traits.specs.Scans.{next_meeting}
-use Rattle.access_traits.specs.Placed.{Placed, is_from, rows_from, row_with}
+use Rattle.base_trait.specs.Scans.{next_meeting}
+use Rattle.am_traits.specs.Placed.{Placed, is_from, rows_from, row_with}
 use Rattle.page_chain.specs.Lying.{place_of}
 
 -- of the rows from a place on, none meets the probe up to this place; or this one is the first that does, and those from this place on are behind it

@@ -2,16 +2,16 @@
 
 ghost use Rattle.std.specs.Prelude.{◌≡◌, ◌<◌, ◌≤◌, ◌^◌, Some, IsTrue, IfOk, OnOk, All, length, map};
 ghost use Rattle.disk_model.specs.Disk.{Image};
-ghost use Rattle.access_traits.specs.Causes.{HasFileCause};
-ghost use Rattle.access_traits.specs.Pages.{KeepsOthers};
-ghost use Rattle.access_traits.specs.Placed.{NowHolds, rows_of};
+ghost use Rattle.am_traits.specs.Causes.{HasFileCause};
+ghost use Rattle.am_traits.specs.Pages.{KeepsOthers};
+ghost use Rattle.am_traits.specs.Placed.{NowHolds, rows_of};
 ghost use Rattle.page_cells.specs.RowBytes.{is_row, row_bytes, widths};
 ghost use Rattle.page_chain.specs.Grown.{IsBuilt, IsNever};
 ghost use Rattle.heap_am.specs.Heap.{heap_rows, IsMade};
 
 use crate::encoding::all_encoded;
-use access_traits::{PageStore, RelFile};
-use am_traits::BaseFault;
+use am_traits::{PageStore, RelFile};
+use base_trait::BaseFault;
 use calculus::Row;
 use page_chain::build;
 use std::alloc::Global;
@@ -59,7 +59,7 @@ impl Heap {
         requires most { widths file.domains ≤ 1012 }
         requires fit { All (λ row. IsTrue (is_row row file.domains)) rows.now }
         requires few { length rows.now < 2 ^ 30 }
-        ensures told { (m : Image) → S.pages store.old ≡ Some m → IfOk result (λ heap. NowHolds (heap_rows heap.file) (S.pages store.new) (λ placed. rows_of placed ≡ rows.now)) }
+        ensures known { (m : Image) → S.pages store.old ≡ Some m → IfOk result (λ heap. NowHolds (heap_rows heap.file) (S.pages store.new) (λ placed. rows_of placed ≡ rows.now)) }
         ensures others { OnOk result (KeepsOthers file.file (S.pages store.old) (S.pages store.new)) }
         ensures file { IfOk result (λ heap. IsMade file heap.file) }
         ensures came { (s : S) → S.came s store.old → S.came s store.new }

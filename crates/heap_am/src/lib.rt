@@ -1,7 +1,6 @@
 //! A heap: a file of rows that lie on one chain of pages, in no order.
 #![tactic(auto)]
 
-mod changing;
 mod encoding;
 mod fitting;
 mod heap;
@@ -9,6 +8,7 @@ mod lines;
 mod method;
 mod near;
 mod pages;
+mod row_changes;
 mod scanning;
 mod whole_pages;
 

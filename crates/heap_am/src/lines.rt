@@ -1,9 +1,9 @@
 //! The rows in the lines of a page.
 
 ghost use Rattle.std.specs.Prelude.{◌≡◌, ◌<◌, Some, None, is_some, slice_index_or, IsTrue, IfOk, IfErr, OnOk};
-ghost use Rattle.am_traits.specs.declared.fault.BaseFault.TheVariants.{Damaged};
+ghost use Rattle.base_trait.specs.declared.fault.BaseFault.TheVariants.{Damaged};
 ghost use Rattle.disk_model.specs.Disk.{Image};
-ghost use Rattle.access_traits.specs.Placed.{Placed, row_with};
+ghost use Rattle.am_traits.specs.Placed.{Placed, row_with};
 ghost use Rattle.page_cells.specs.Page.{IsPage, lines, slots};
 ghost use Rattle.page_chain.specs.Lying.{place_of};
 ghost use Rattle.page_chain.specs.Pages.{page_at};
@@ -11,7 +11,7 @@ ghost use Rattle.page_chain.specs.Rows.{reader};
 ghost use Rattle.heap_am.specs.Heap.{heap_rows, is_readable, IsOfPage, IsOfRow};
 
 use crate::Heap;
-use am_traits::BaseFault;
+use base_trait::BaseFault;
 use byteorder::{ByteOrder, LittleEndian};
 use calculus::{Domain, OutOfMemory, Row};
 use disk_model::Page;
@@ -65,7 +65,7 @@ impl Heap {
     ) -> Result<Option<Row>, BaseFault>
         requires page { IsPage page.now }
         requires below { number < self.now.file.used }
-        ensures told { (m : Image) (rows : Placed) → heap_rows self.now.file m ≡ Some rows → m (page_at self.now.file.file number) ≡ Some page.now
+        ensures known { (m : Image) (rows : Placed) → heap_rows self.now.file m ≡ Some rows → m (page_at self.now.file.file number) ≡ Some page.now
             → IfOk result (λ row. row ≡ row_with rows (place_of number line)) }
         ensures read { OnOk result (IsTrue (is_readable (reader self.now.file.domains) (slice_index_or (slots page.now) line None))) }
         ensures fault { IfErr result (IsOfPage self.now.file number page.now) }

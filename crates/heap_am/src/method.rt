@@ -3,14 +3,14 @@
 ghost use Rattle.std.specs.Prelude.{◌≡◌, ◌<◌, Some, IfOk};
 ghost use Rattle.calculus.specs.declared.probe.Place.{Place as At};
 ghost use Rattle.disk_model.specs.Disk.{Image, RisesUpTo};
-ghost use Rattle.access_traits.specs.Causes.{HasFileCause};
-ghost use Rattle.access_traits.specs.Placed.{Placed, row_with};
+ghost use Rattle.am_traits.specs.Causes.{HasFileCause};
+ghost use Rattle.am_traits.specs.Placed.{Placed, row_with};
 ghost use Rattle.heap_am.specs.Heap.{heap_rows, pages_ahead, HeapFault};
 ghost use Rattle.heap_am.specs.Laws.{no_rows_at_fault, own_pages, whole_scan};
 
 use crate::Heap;
-use access_traits::{AccessMethod, PageStore};
-use am_traits::BaseFault;
+use am_traits::{AccessMethod, PageStore};
+use base_trait::BaseFault;
 use calculus::{Place, Probe, Row};
 use disk_model::Page;
 use std::alloc::Global;
@@ -24,7 +24,7 @@ impl Heap {
         place: &Place,
     ) -> Result<Option<Row>, BaseFault>
         requires below { place.now.page < self.now.file.used }
-        ensures told { (m : Image) (rows : Placed) → S.pages store.old ≡ Some m → heap_rows self.now.file m ≡ Some rows
+        ensures known { (m : Image) (rows : Placed) → S.pages store.old ≡ Some m → heap_rows self.now.file m ≡ Some rows
             → IfOk result (λ row. row ≡ row_with rows place.now) }
         ensures same { S.pages store.new ≡ S.pages store.old }
         ensures came { (s : S) → S.came s store.old → S.came s store.new }

@@ -3,9 +3,9 @@
 ghost use Rattle.std.specs.Prelude.{◌≡◌, ◌+◌, ◌-◌, ◌^◌, ◌<◌, ◌≤◌, ℕ, [], ◌∷◌, ◌++◌, List, Some, None, true, IsTrue, IfOk, IfSome, OnOk, All, length, map, take};
 ghost use Rattle.calculus.specs.Rows.{Row as Values, has};
 ghost use Rattle.disk_model.specs.Disk.{Image};
-ghost use Rattle.access_traits.specs.Causes.{HasFileCause};
-ghost use Rattle.access_traits.specs.Pages.{KeepsOthers};
-ghost use Rattle.access_traits.specs.Placed.{Placed, Replaced, NowHolds, SameButUsed, rows_differ, rows_of};
+ghost use Rattle.am_traits.specs.Causes.{HasFileCause};
+ghost use Rattle.am_traits.specs.Pages.{KeepsOthers};
+ghost use Rattle.am_traits.specs.Placed.{Placed, Replaced, NowHolds, SameButUsed, rows_differ, rows_of};
 ghost use Rattle.page_cells.specs.RowBytes.{is_row, row_bytes};
 ghost use Rattle.page_chain.specs.Chains.{IsChain, OffPage};
 ghost use Rattle.page_chain.specs.Grown.{IsGrown};
@@ -16,8 +16,8 @@ ghost use Rattle.heap_am.specs.Near.{IsRising, IsDoneOn, IsDoneNear};
 
 use crate::Heap;
 use crate::encoding::all_encoded;
-use access_traits::PageStore;
-use am_traits::BaseFault;
+use am_traits::PageStore;
+use base_trait::BaseFault;
 use calculus::{OutOfMemory, Row};
 use disk_model::{Addr, Page};
 use memory::List;
@@ -193,7 +193,7 @@ impl Heap {
     ) -> Result<bool, BaseFault>
         requires short { All (λ row. IsShort row) coming.now }
         requires room { self.old.file.used + length coming.now < 2 ^ 32 }
-        ensures told { (m : Image) (rows : Placed) (gone new : List Values) → S.pages store.old ≡ Some m → heap_rows self.old.file m ≡ Some rows
+        ensures known { (m : Image) (rows : Placed) (gone new : List Values) → S.pages store.old ≡ Some m → heap_rows self.old.file m ≡ Some rows
             → All (λ row. IsTrue (is_row row self.old.file.domains)) gone → going.now ≡ map (λ row. row_bytes row self.old.file.domains) gone
             → All (λ row. IsTrue (is_row row self.old.file.domains)) new → coming.now ≡ map (λ row. row_bytes row self.old.file.domains) new
             → rows_differ (rows_of rows) ≡ true → rows_differ gone ≡ true → All (λ row. IsTrue (has (rows_of rows) row)) gone
@@ -230,7 +230,7 @@ impl Heap {
         requires going { All (λ row. IsTrue (is_row row self.old.file.domains)) going.now }
         requires coming { All (λ row. IsTrue (is_row row self.old.file.domains)) coming.now }
         requires room { self.old.file.used + length coming.now < 2 ^ 32 }
-        ensures told { (m : Image) (rows : Placed) → S.pages store.old ≡ Some m → heap_rows self.old.file m ≡ Some rows
+        ensures known { (m : Image) (rows : Placed) → S.pages store.old ≡ Some m → heap_rows self.old.file m ≡ Some rows
             → rows_differ (rows_of rows) ≡ true → rows_differ going.now ≡ true → All (λ row. IsTrue (has (rows_of rows) row)) going.now
             → IfOk result (λ all. IsTrue all × NowHolds (heap_rows self.new.file) (S.pages store.new) (Replaced rows going.now coming.now)) }
         // True only where all that were to go were there.

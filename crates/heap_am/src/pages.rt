@@ -2,14 +2,14 @@
 
 ghost use Rattle.std.specs.Prelude.{◌≡◌, ◌<◌, Some, IsTrue, OnOk};
 ghost use Rattle.disk_model.specs.Disk.{Image, RisesUpTo};
-ghost use Rattle.access_traits.specs.Causes.{HasFileCause};
+ghost use Rattle.am_traits.specs.Causes.{HasFileCause};
 ghost use Rattle.page_cells.specs.Page.{IsPage};
 ghost use Rattle.page_chain.specs.Pages.{page_at};
 ghost use Rattle.heap_am.specs.Heap.{behind, goes_on, HeapFault};
 
 use crate::Heap;
-use access_traits::PageStore;
-use am_traits::BaseFault;
+use am_traits::PageStore;
+use base_trait::BaseFault;
 use disk_model::Page;
 use page_chain::chain_page;
 

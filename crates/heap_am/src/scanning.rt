@@ -2,9 +2,9 @@
 
 ghost use Rattle.std.specs.Prelude.{◌≡◌, ◌+◌, ◌^◌, ◌<◌, ◌≤◌, Some, None, is_some, IfOk, IfErr, IfSome, OnOk, if◌then◌else◌};
 ghost use Rattle.disk_model.specs.Disk.{Image};
-ghost use Rattle.am_traits.specs.Scans.{Gives, IsOver, has_value, meets};
-ghost use Rattle.access_traits.specs.Causes.{HasFileCause};
-ghost use Rattle.access_traits.specs.Placed.{Placed, GivesBefore, row_with, rows_from};
+ghost use Rattle.base_trait.specs.Scans.{Gives, IsOver, has_value, meets};
+ghost use Rattle.am_traits.specs.Causes.{HasFileCause};
+ghost use Rattle.am_traits.specs.Placed.{Placed, GivesBefore, row_with, rows_from};
 ghost use Rattle.page_cells.specs.Page.{IsPage};
 ghost use Rattle.page_chain.specs.Lying.{place_of};
 ghost use Rattle.page_chain.specs.Pages.{page_at};
@@ -13,8 +13,8 @@ ghost use Rattle.heap_am.specs.Met.{MetBefore, MetOn};
 
 use crate::Heap;
 use crate::lines::line_count;
-use access_traits::PageStore;
-use am_traits::BaseFault;
+use am_traits::PageStore;
+use base_trait::BaseFault;
 use calculus::{Place, Probe, Row, Value};
 use disk_model::Page;
 use std::alloc::Global;
@@ -52,7 +52,7 @@ impl Heap {
     ) -> Result<Option<Row>, BaseFault>
         requires page { IsPage page.now }
         requires below { number < self.now.file.used }
-        ensures told { (m : Image) (rows : Placed) → heap_rows self.now.file m ≡ Some rows → m (page_at self.now.file.file number) ≡ Some page.now
+        ensures known { (m : Image) (rows : Placed) → heap_rows self.now.file m ≡ Some rows → m (page_at self.now.file.file number) ≡ Some page.now
             → IfOk result (MetBefore rows probe.now (place_of number line) (place_of number (line + 1))) }
         ensures stood { (m : Image) (rows : Placed) → heap_rows self.now.file m ≡ Some rows → m (page_at self.now.file.file number) ≡ Some page.now
             → IfOk result (λ row. IfSome row (λ r. row_with rows (place_of number line) ≡ Some r)) }
@@ -81,7 +81,7 @@ impl Heap {
     ) -> Result<Option<(u16, Row)>, BaseFault>
         requires page { IsPage page.now }
         requires below { number < self.now.file.used }
-        ensures told { (m : Image) (rows : Placed) → heap_rows self.now.file m ≡ Some rows → m (page_at self.now.file.file number) ≡ Some page.now
+        ensures known { (m : Image) (rows : Placed) → heap_rows self.now.file m ≡ Some rows → m (page_at self.now.file.file number) ≡ Some page.now
             → IfOk result (MetOn rows probe.now number from) }
         ensures within { IfOk result (λ found. IfSome found (λ f. f.0 < 256)) }
         ensures fault { IfErr result (IsOfPage self.now.file number page.now) }
@@ -106,7 +106,7 @@ impl Heap {
         requires page { IsPage page.now }
         requires below { at.old.page < self.now.file.used }
         requires small { at.old.page + 1 < 2 ^ 32 }
-        ensures told { (m : Image) (rows : Placed) → heap_rows self.now.file m ≡ Some rows → m (page_at self.now.file.file at.old.page) ≡ Some page.now
+        ensures known { (m : Image) (rows : Placed) → heap_rows self.now.file m ≡ Some rows → m (page_at self.now.file.file at.old.page) ≡ Some page.now
             → IfOk result (MetBefore rows probe.now at.old at.new) }
         ensures place { (m : Image) (rows : Placed) → heap_rows self.now.file m ≡ Some rows → m (page_at self.now.file.file at.old.page) ≡ Some page.now
             → GivesBefore rows at.new result }
@@ -136,7 +136,7 @@ impl Heap {
     ) -> Result<Option<Row>, BaseFault>
         requires below { at.old.page < self.now.file.used }
         requires small { at.old.page + 1 < 2 ^ 32 }
-        ensures told { (m : Image) (rows : Placed) → S.pages store.old ≡ Some m → heap_rows self.now.file m ≡ Some rows
+        ensures known { (m : Image) (rows : Placed) → S.pages store.old ≡ Some m → heap_rows self.now.file m ≡ Some rows
             → IfOk result (MetBefore rows probe.now at.old at.new) }
         ensures place { (m : Image) (rows : Placed) → S.pages store.old ≡ Some m → heap_rows self.now.file m ≡ Some rows
             → GivesBefore rows at.new result }
@@ -161,7 +161,7 @@ impl Heap {
         probe: &Probe,
         at: &mut Place,
     ) -> Result<Option<Row>, BaseFault>
-        ensures told { (m : Image) (rows : Placed) → S.pages store.old ≡ Some m → heap_rows self.now.file m ≡ Some rows
+        ensures known { (m : Image) (rows : Placed) → S.pages store.old ≡ Some m → heap_rows self.now.file m ≡ Some rows
             → Gives probe.now (rows_from rows) at.old at.new result }
         ensures over { (m : Image) (rows : Placed) → S.pages store.old ≡ Some m → heap_rows self.now.file m ≡ Some rows
             → IsOver probe.now (rows_from rows) at.new result }

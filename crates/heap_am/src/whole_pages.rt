@@ -2,8 +2,8 @@
 
 ghost use Rattle.std.specs.Prelude.{◌≡◌, ◌+◌, ◌++◌, ◌<◌, [], ◌∷◌, Some, IsTrue, IfOk, IfErr, OnOk};
 ghost use Rattle.disk_model.specs.Disk.{Image, RisesUpTo};
-ghost use Rattle.access_traits.specs.Causes.{HasFileCause};
-ghost use Rattle.access_traits.specs.Placed.{Placed};
+ghost use Rattle.am_traits.specs.Causes.{HasFileCause};
+ghost use Rattle.am_traits.specs.Placed.{Placed};
 ghost use Rattle.page_cells.specs.Page.{IsPage};
 ghost use Rattle.page_chain.specs.Lying.{place_of};
 ghost use Rattle.page_chain.specs.Pages.{page_at};
@@ -13,8 +13,8 @@ ghost use Rattle.heap_am.specs.Met.{placed_from, on_page};
 
 use crate::Heap;
 use crate::lines::line_count;
-use access_traits::PageStore;
-use am_traits::BaseFault;
+use am_traits::PageStore;
+use base_trait::BaseFault;
 use calculus::{OutOfMemory, Row};
 use disk_model::Page;
 use memory::List;
@@ -33,7 +33,7 @@ impl Heap {
     fn lines(&self, alloc: Global, page: &Page, number: u32) -> Result<List<(u16, Row)>, BaseFault>
         requires page { IsPage page.now }
         requires below { number < self.now.file.used }
-        ensures told { (m : Image) (rows : Placed) → heap_rows self.now.file m ≡ Some rows → m (page_at self.now.file.file number) ≡ Some page.now
+        ensures known { (m : Image) (rows : Placed) → heap_rows self.now.file m ≡ Some rows → m (page_at self.now.file.file number) ≡ Some page.now
             → IfOk result (λ found. placed_from rows (place_of number 0) ≡ on_page number found ++ placed_from rows (place_of (number + 1) 0)) }
         ensures read { OnOk result (IsTrue (has_rows (reader self.now.file.domains) number (Some page.now))) }
         ensures fault { IfErr result (IsOfPage self.now.file number page.now) }
@@ -57,7 +57,7 @@ impl Heap {
         number: u32,
     ) -> Result<List<(u16, Row)>, BaseFault>
         requires below { number < self.now.file.used }
-        ensures told { (m : Image) (rows : Placed) → S.pages store.old ≡ Some m → heap_rows self.now.file m ≡ Some rows
+        ensures known { (m : Image) (rows : Placed) → S.pages store.old ≡ Some m → heap_rows self.now.file m ≡ Some rows
             → IfOk result (λ found. placed_from rows (place_of number 0) ≡ on_page number found ++ placed_from rows (place_of (number + 1) 0)) }
         ensures stands { (m : Image) → S.pages store.old ≡ Some m → OnOk result (IsTrue (stands (reader self.now.file.domains) self.now.file.used number (m (page_at self.now.file.file number)))) }
         ensures same { S.pages store.new ≡ S.pages store.old }

@@ -4,7 +4,7 @@ use Rattle.std.proofs.KnownBytes.{Appends-nil}
 use Rattle.std.specs.declared.option.Option.{Option}
 use Rattle.std.specs.Io.KnownBytes.{Appends}
 use Rattle.calculus.specs.Who.{Asker, asker_of}
-use Rattle.fault_io.specs.Told.{IsFront, GrewBy}
+use Rattle.fault_io.specs.Known.{IsFront, GrewBy}
 use Rattle.fault_io.specs.Files.{Files}
 use Rattle.plain_statements.specs.Standing.{empty_db}
 use Rattle.session_run.specs.Standing.{state_on}
@@ -30,30 +30,30 @@ unfolding session
 same_whole user files script = refl
 
 module _ (user : List ℕ) (files : Files) where
-  done_is : (left0 left1 w0 w1 : Option (List ℕ)) (told1 : Option Files) → runs.IsDone (of_asker (asker_of user)) (nothing_yet user files) left0 left1 w0 w1 told1
-      → IsDone user files left0 left1 w0 w1 told1
-  done_is None left1 w0 w1 told1 done = done
-  done_is (Some script) left1 w0 w1 told1 done =
-      subst (λ (s : Session). ((left1 ≡ Some []) ⊎ (s.quit ≡ true)) × Appends w0 w1 (output s) × (told1 ≡ Some s.state.shelf)) (same_whole user files script) done
+  done_is : (left0 left1 w0 w1 : Option (List ℕ)) (known1 : Option Files) → runs.IsDone (of_asker (asker_of user)) (nothing_yet user files) left0 left1 w0 w1 known1
+      → IsDone user files left0 left1 w0 w1 known1
+  done_is None left1 w0 w1 known1 done = done
+  done_is (Some script) left1 w0 w1 known1 done =
+      subst (λ (s : Session). ((left1 ≡ Some []) ⊎ (s.quit ≡ true)) × Appends w0 w1 (output s) × (known1 ≡ Some s.state.shelf)) (same_whole user files script) done
 
   partly_is : (left0 w0 w1 : Option (List ℕ)) → runs.IsPartlyDone (of_asker (asker_of user)) (nothing_yet user files) left0 w0 w1 → IsPartlyDone user files left0 w0 w1
   partly_is None w0 w1 done = done
   partly_is (Some script) w0 w1 done = subst (λ (s : Session). GrewBy w0 w1 (λ more. IsFront more (output s))) (same_whole user files script) done
 
-  cut_off_is : (left0 left1 w0 w1 : Option (List ℕ)) (told1 : Option Files) → runs.IsCutOff (of_asker (asker_of user)) (nothing_yet user files) left0 left1 w0 w1 told1
-      → IsCutOff user files left0 left1 w0 w1 told1
-  cut_off_is None left1 w0 w1 told1 cut = cut
-  cut_off_is (Some script) left1 w0 w1 told1 cut = record { read = cut.read; goes_on = cut.goes_on; printed = cut.printed; shelved = cut.shelved }
+  cut_off_is : (left0 left1 w0 w1 : Option (List ℕ)) (known1 : Option Files) → runs.IsCutOff (of_asker (asker_of user)) (nothing_yet user files) left0 left1 w0 w1 known1
+      → IsCutOff user files left0 left1 w0 w1 known1
+  cut_off_is None left1 w0 w1 known1 cut = cut
+  cut_off_is (Some script) left1 w0 w1 known1 cut = record { read = cut.read; goes_on = cut.goes_on; printed = cut.printed; shelved = cut.shelved }
 
   kept_up_is : (left0 left1 w0 w1 : Option (List ℕ)) → runs.IsKeptUp (of_asker (asker_of user)) (nothing_yet user files) left0 left1 w0 w1 → IsKeptUp user files left0 left1 w0 w1
   kept_up_is None left1 w0 w1 kept = kept
   kept_up_is (Some script) left1 w0 w1 kept =
       record { heard = kept.heard; piece = kept.piece; small = kept.small; read = kept.read; goes_on = kept.goes_on; printed = kept.printed }
 
-  broken_off_is : (left0 left1 w0 w1 : Option (List ℕ)) (told1 : Option Files) → runs.IsBrokenOff (of_asker (asker_of user)) (nothing_yet user files) left0 left1 w0 w1 told1
-      → IsBrokenOff user files left0 left1 w0 w1 told1
-  broken_off_is None left1 w0 w1 told1 broken = broken
-  broken_off_is (Some script) left1 w0 w1 told1 broken =
+  broken_off_is : (left0 left1 w0 w1 : Option (List ℕ)) (known1 : Option Files) → runs.IsBrokenOff (of_asker (asker_of user)) (nothing_yet user files) left0 left1 w0 w1 known1
+      → IsBrokenOff user files left0 left1 w0 w1 known1
+  broken_off_is None left1 w0 w1 known1 broken = broken
+  broken_off_is (Some script) left1 w0 w1 known1 broken =
       record { heard = broken.heard; read = broken.read; goes_on = broken.goes_on; printed = broken.printed; shelved = broken.shelved }
 
   -- of a script of which nothing is read nothing is heard
@@ -83,21 +83,21 @@ module _ (user : List ℕ) (files : Files) where
         subst (λ (r : Ranges). says (asker_of user) (state_on (empty_db user) r files)) no_ranges
         (subst (λ (d : Db). says (asker_of user) (state_on d ranges files)) same_db (subst (λ (a : Asker). says a (state_on db ranges files)) same_user said))
 
-    pub done_so : (left0 left1 w0 w1 : Option (List ℕ)) (told1 : Option Files) → runs.IsDone (of_asker begun) (state_on db ranges files) left0 left1 w0 w1 told1
-        → IsDone user files left0 left1 w0 w1 told1
-    done_so left0 left1 w0 w1 told1 done = done_is left0 left1 w0 w1 told1 (begins_so (λ u s. runs.IsDone (of_asker u) s left0 left1 w0 w1 told1) done)
+    pub done_so : (left0 left1 w0 w1 : Option (List ℕ)) (known1 : Option Files) → runs.IsDone (of_asker begun) (state_on db ranges files) left0 left1 w0 w1 known1
+        → IsDone user files left0 left1 w0 w1 known1
+    done_so left0 left1 w0 w1 known1 done = done_is left0 left1 w0 w1 known1 (begins_so (λ u s. runs.IsDone (of_asker u) s left0 left1 w0 w1 known1) done)
 
     pub partly_so : (left0 w0 w1 : Option (List ℕ)) → runs.IsPartlyDone (of_asker begun) (state_on db ranges files) left0 w0 w1 → IsPartlyDone user files left0 w0 w1
     partly_so left0 w0 w1 done = partly_is left0 w0 w1 (begins_so (λ u s. runs.IsPartlyDone (of_asker u) s left0 w0 w1) done)
 
-    pub cut_off_so : (left0 left1 w0 w1 : Option (List ℕ)) (told1 : Option Files) → runs.IsCutOff (of_asker begun) (state_on db ranges files) left0 left1 w0 w1 told1
-        → IsCutOff user files left0 left1 w0 w1 told1
-    cut_off_so left0 left1 w0 w1 told1 cut = cut_off_is left0 left1 w0 w1 told1 (begins_so (λ u s. runs.IsCutOff (of_asker u) s left0 left1 w0 w1 told1) cut)
+    pub cut_off_so : (left0 left1 w0 w1 : Option (List ℕ)) (known1 : Option Files) → runs.IsCutOff (of_asker begun) (state_on db ranges files) left0 left1 w0 w1 known1
+        → IsCutOff user files left0 left1 w0 w1 known1
+    cut_off_so left0 left1 w0 w1 known1 cut = cut_off_is left0 left1 w0 w1 known1 (begins_so (λ u s. runs.IsCutOff (of_asker u) s left0 left1 w0 w1 known1) cut)
 
     pub kept_up_so : (left0 left1 w0 w1 : Option (List ℕ)) → runs.IsKeptUp (of_asker begun) (state_on db ranges files) left0 left1 w0 w1 → IsKeptUp user files left0 left1 w0 w1
     kept_up_so left0 left1 w0 w1 kept = kept_up_is left0 left1 w0 w1 (begins_so (λ u s. runs.IsKeptUp (of_asker u) s left0 left1 w0 w1) kept)
 
-    pub broken_off_so : (left0 left1 w0 w1 : Option (List ℕ)) (told1 : Option Files) → runs.IsBrokenOff (of_asker begun) (state_on db ranges files) left0 left1 w0 w1 told1
-        → IsBrokenOff user files left0 left1 w0 w1 told1
-    broken_off_so left0 left1 w0 w1 told1 broken =
-        broken_off_is left0 left1 w0 w1 told1 (begins_so (λ u s. runs.IsBrokenOff (of_asker u) s left0 left1 w0 w1 told1) broken)
+    pub broken_off_so : (left0 left1 w0 w1 : Option (List ℕ)) (known1 : Option Files) → runs.IsBrokenOff (of_asker begun) (state_on db ranges files) left0 left1 w0 w1 known1
+        → IsBrokenOff user files left0 left1 w0 w1 known1
+    broken_off_so left0 left1 w0 w1 known1 broken =
+        broken_off_is left0 left1 w0 w1 known1 (begins_so (λ u s. runs.IsBrokenOff (of_asker u) s left0 left1 w0 w1 known1) broken)

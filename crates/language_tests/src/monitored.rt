@@ -6,7 +6,7 @@ use std::alloc::{AllocError, Global};
 use std::test::*;
 
 /// What a command is called, and the name of its file.
-fn told(command: &Command) -> (&[u8], &[u8]) {
+fn known(command: &Command) -> (&[u8], &[u8]) {
     match command {
         Command::Go => (b"go", &[]),
         Command::Print => (b"print", &[]),
@@ -23,7 +23,7 @@ fn told(command: &Command) -> (&[u8], &[u8]) {
 fn push_part(out: &mut Vec<u8>, part: &Part) -> Result<(), AllocError> {
     let (open, (name, file), close) = match part {
         Part::Piece(bytes) => (b'<', (bytes.items(), [].as_slice()), b'>'),
-        Part::Order(command) => (b'[', told(command), b']'),
+        Part::Order(command) => (b'[', known(command), b']'),
     };
     out.push(open)?;
     out.extend_from_slice(name)?;

@@ -12,7 +12,7 @@ const TEXTS: &[u8] =
     b"r18 RANGE OF E IS EMP\nr29 range/**/of/*x*/e is/***/emp\nr18 range of e is emp range of f is emp\nr10 print a,b help\nr5 help help\nr7 help a b\nr25 retrieve(e.a)where e.a=1retrieve(e.b)\nr9 delete e delete f\nr16 append emp(a=1)\nr37 append to emp(a=9223372036854775807)\ns17 append to emp(a=9223372036854775808)\nr19 print abcdefghijkl\ns7 print abcdefghijklm\nr9 print _1\ns7 print 1a\nr26 delete e where e.a=\"\\\"\\\\\"\ns20 delete e where e.a=\"\\\"\nr43 retrieve (x = 1 ** 2 ** 3 - 4 - 5 * 6 / 7)\nr23 retrieve (x = - - + 1)\nr54 delete e where not not e.a = 1 or e.b = 2 and e.c = 3\nr31 delete e where ((e.a) + 1) = 2\nr27 delete e where ((e.a = 1))\ns21 delete e where (e.a)\ns19 delete e where e.a\ns10 retrieve where e.a = 1\nr17 retrieve r (e.a)\nr51 retrieve into r (e.a) sort by a:a, b:descending, c\ns28 retrieve (e.a) sort by a : up\nr34 modify emp to isam on a,b,c,d,e,f\ns35 modify emp to isam on a,b,c,d,e,f,g\ns35 modify emp to hash on a,b,c,d,e,f,\nr32 index on emp is x (a,b,c,d,e,f)\ns32 index on emp is x (a,b,c,d,e,f,g)\nr19 modify emp to heap on a\ns15 modify emp to cheap\ns15 create emp (a=c0)\nr30 create emp (a=c255,b=i1,c=i2)\ns15 create emp (a=c256)\ns15 create emp (a=c01)\ns15 create emp (a=i3)\nr59 copy emp (a=c0nl,b=c0sp,c=c0comma,d=c0colon,e=c1) into \"f\"\ns13 copy emp (a=c0xx) into \"f\"\nr30 destroy permit emp 4294967295\ns20 destroy permit emp 4294967296\nr28 destroy integrity emp 0, 01\ns32 define permit retrieve on e to where\nr63 define permit replace, delete to e (a, b) to all where e.a = 1 print x\ns8 define index\ns7 define\nn0 \nn0   /* */ \ns1 /*\nr8 print a /* b\nr8 print a ;\ns1 ; print a\ns7 print \"a\"\ns1 select\ns6 range\ns11 append to to (a=1)\nr26 retrieve (x = count(e.a))\nr53 retrieve (x = count (e.a by e.b, e.c where e.d = 1))\ns32 retrieve (x = any(e.a where e.b))\ns20 retrieve (x = abs(1, 2))\ns18 retrieve (x = foo(1))\ns20 retrieve (x = mod(1))\nr22 retrieve (e.all, e.a)\ns11 retrieve (all = 1)\ns15 retrieve (e.a = 1)\ns20 delete e where e.a ! = 1\ns22 delete e where e.a < > 1\nr5 help \\";
 
 /// Whether this is what a table says: the letter, and the place.
-fn is_told(answer: Answer, letter: u8, place: usize) -> bool {
+fn is_read(answer: Answer, letter: u8, place: usize) -> bool {
     match answer {
         Answer::Statement(end, _) => letter == b'r' && place == end,
         Answer::Syntax(_, at) => letter == b's' && place == at,
@@ -26,7 +26,7 @@ fn is_right(alloc: Global, line: &[u8]) -> bool {
     match line {
         [letter, rest @ ..] => {
             let (place, text) = parts_of(rest);
-            is_told(read_at(alloc, text, 0), *letter, place)
+            is_read(read_at(alloc, text, 0), *letter, place)
         }
         [] => false,
     }
@@ -155,6 +155,6 @@ fn scripts_are_read_to_their_ends_and_statements_have_500_tokens_and_50_parenthe
     assert!(rt; refused_behind(rt.alloc(), WRONG_WORD) == (1, Answer::Syntax(2, 18)));
     for (front, part, count, middle, closed, letter, place) in &LONG {
         let read = read_repeated(rt.alloc(), *front, *part, *count, *middle, *closed);
-        assert!(rt; is_told(read, *letter, *place));
+        assert!(rt; is_read(read, *letter, *place));
     }
 }

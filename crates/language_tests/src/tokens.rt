@@ -1,6 +1,6 @@
 //! The tokens of texts, with their places.
 
-use quel_lexer::{Lexed, Span, Stop, first_place, lex_front, line_at, number_of, piece_at};
+use quel_lexer::{Lexed, Span, Stop, first_offset, lex_front, line_at, number_of, piece_at};
 use std::alloc::Global;
 use std::test::*;
 
@@ -88,7 +88,7 @@ fn tokens_have_places_and_the_longest_piece_stands_in_front(rt: HostRuntime) {
         assert!(rt; tokens == *count && follows == *stop);
     }
     for (at, first, line) in &BEGINS {
-        assert!(rt; first_place(rt.alloc(), LINES, *at) == Ok(*first));
+        assert!(rt; first_offset(rt.alloc(), LINES, *at) == Ok(*first));
         assert!(rt; line_at(LINES, *at) == *line);
     }
     for (text, want) in &PIECES {

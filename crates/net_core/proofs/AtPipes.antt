@@ -10,10 +10,10 @@ use Rattle.net_core.specs.declared.steps.Moved.TheVariants.{Stepped, Blocked}
 use Rattle.net_core.specs.Faults.{IsOfTaking}
 use Rattle.net_core.specs.Pipes.{GaveTo, TookFrom, WasEmpty}
 use Rattle.net_core.specs.Steps.{FitUnlessBlocked, Piped, PipedDone, PipedMayNot, PipedMoves, PipedStepsBy, in_room}
-use Rattle.net_core.specs.Told.{FailedStep, KeepsDatabase, Outside, told}
+use Rattle.net_core.specs.Known.{FailedStep, KeepsDatabase, Outside, known}
 use Rattle.net_core.specs.Wants.{was_blocked}
 use Rattle.net_core.specs.Spares.{CountsOnly, IsInside, Spares}
-use Rattle.network_meaning.specs.Calls.{GivenLeft, GivenRight, Told}
+use Rattle.network_meaning.specs.Calls.{GivenLeft, GivenRight, Known}
 use Rattle.network_meaning.proofs.Runs.{wrote_nothing}
 use Rattle.network_meaning.specs.Language.{Language}
 use Rattle.network_meaning.specs.LocalSteps.{Act, Mode, Works, Room as NetworkRoom, Want.take_left, Want.take_right, Want.give_left, Want.give_right, Want.none}
@@ -73,7 +73,7 @@ failed_alone L s o (Err fault) = inr refl
 -- a step that leaves all outside alone
 alone : (l r : ℕ) (old new : Piped) (o : Outside) (h h' p p' : ℕ) (serves serves' : User → Type 0) (result : Result Moved WorkFault) →
     ((room : NetworkRoom quel_sorts) → IfOk result (λ moved. is_blocked l r (in_room old room) (want old.stage) ≡ was_blocked moved)) →
-    ((user : User) → serves user → IfOk result (λ moved. PipedMoves (quel user) l r (was_blocked moved) old new (told o) (told o))) →
+    ((user : User) → serves user → IfOk result (λ moved. PipedMoves (quel user) l r (was_blocked moved) old new (known o) (known o))) →
     ((user : User) → serves user → IsErrOf result faults.Unlawful → PipedMayNot (quel user) old o) →
     IfErr result (λ fault. IsOfTaking fault) → ((user : User) → serves user → serves' user) → p' ≡ p → h' ≡ h →
     PipedDone l r old new o o h h' p p' serves serves' result
@@ -96,7 +96,7 @@ alone l r old new o h h' p p' serves serves' result blocked steps unlawful cause
 }
 
 -- a step in a room that stays
-stays : (L : Language quel_sorts) (l r : ℕ) (blocked : Bool) (old new : Piped) (o : Told quel_sorts) →
+stays : (L : Language quel_sorts) (l r : ℕ) (blocked : Bool) (old new : Piped) (o : Known quel_sorts) →
     ((room : NetworkRoom quel_sorts) → is_blocked l r (in_room old room) (want old.stage) ≡ blocked) →
     ((room : NetworkRoom quel_sorts) → FitUnlessBlocked L (in_room old room) blocked) →
     ((W : Mode quel_sorts → NetworkRoom quel_sorts → Act quel_sorts → NetworkRoom quel_sorts → Type 0) (room : NetworkRoom quel_sorts) → PipedStepsBy W L (in_room old room) (in_room new room) blocked) →
@@ -105,7 +105,7 @@ stays L l r blocked old new o is fit step = record {
   is = is;
   shape = step (WorksInShape L);
   fit = λ room d s. fit room;
-  exact = λ room e. record { room' = room; told = e; wrote = wrote_nothing o room; step = step (Works L) room };
+  exact = λ room e. record { room' = room; known = e; wrote = wrote_nothing o room; step = step (Works L) room };
 }
 
 -- ---- it took a frame
@@ -115,14 +115,14 @@ empty_blocked Stepped [] h = absurd (h refl)
 empty_blocked Stepped (f ∷ fs) h = refl
 empty_blocked Blocked pipe h = rw h refl
 
-took_left_moves : (L : Language quel_sorts) (moved : Moved) (l r : ℕ) (s s' : LocalState quel_sorts) (li li' lo ro ri : List Frame) (o : Told quel_sorts) → want s ≡ take_left → TookFrom L moved s li s' li' →
+took_left_moves : (L : Language quel_sorts) (moved : Moved) (l r : ℕ) (s s' : LocalState quel_sorts) (li li' lo ro ri : List Frame) (o : Known quel_sorts) → want s ≡ take_left → TookFrom L moved s li s' li' →
     PipedMoves L l r (was_blocked moved) (at_pipes s li lo ro ri) (at_pipes s' li' lo ro ri) o o
 took_left_moves L Stepped l r s s' li li' lo ro ri o e (f, e1, t) =
     stays L l r false _ _ o (λ room. rw (e, e1) refl) (λ room. rw e tt) (λ W room. rw (e, e1) (s', (rw e at t.1), refl))
 took_left_moves L Blocked l r s s' li li' lo ro ri o e (e1, e2, e3) =
     stays L l r true _ _ o (λ room. rw (e, e1) refl) (λ room. tt) (λ W room. rw (e2, e3) refl)
 
-took_right_moves : (L : Language quel_sorts) (moved : Moved) (l r : ℕ) (s s' : LocalState quel_sorts) (li lo ro ri ri' : List Frame) (o : Told quel_sorts) → want s ≡ take_right → TookFrom L moved s ri s' ri' →
+took_right_moves : (L : Language quel_sorts) (moved : Moved) (l r : ℕ) (s s' : LocalState quel_sorts) (li lo ro ri ri' : List Frame) (o : Known quel_sorts) → want s ≡ take_right → TookFrom L moved s ri s' ri' →
     PipedMoves L l r (was_blocked moved) (at_pipes s li lo ro ri) (at_pipes s' li lo ro ri') o o
 took_right_moves L Stepped l r s s' li lo ro ri ri' o e (f, e1, t) =
     stays L l r false _ _ o (λ room. rw (e, e1) refl) (λ room. rw e tt) (λ W room. rw (e, e1) (s', (rw e at t.1), refl))
@@ -146,7 +146,7 @@ pub took_left : (l r : ℕ) (s s' : LocalState quel_sorts) (li li' lo ro ri : Li
     PipedDone l r (at_pipes s li lo ro ri) (at_pipes s' li' lo ro ri) o o h h' p p' serves serves' result
 took_left l r s s' li li' lo ro ri o h h' p p' serves serves' result e took blocked refused cause serve place heard =
     alone l r _ _ o h h' p p' serves serves' result (λ room. if_ok result _ _ (λ moved empty. rw e (empty_blocked moved li empty)) blocked)
-    (λ user x. if_ok result _ _ (λ moved t. took_left_moves (quel user) moved l r s s' li li' lo ro ri (told o) e t) (took user x))
+    (λ user x. if_ok result _ _ (λ moved t. took_left_moves (quel user) moved l r s s' li li' lo ro ri (known o) e t) (took user x))
     (λ user x u. refused_left (quel user) s li lo ro ri o e (refused user x u)) cause serve place heard
 
 pub took_right : (l r : ℕ) (s s' : LocalState quel_sorts) (li lo ro ri ri' : List Frame) (o : Outside) (h h' p p' : ℕ) (serves serves' : User → Type 0) (result : Result Moved WorkFault) → want s ≡ take_right →
@@ -156,7 +156,7 @@ pub took_right : (l r : ℕ) (s s' : LocalState quel_sorts) (li lo ro ri ri' : L
     PipedDone l r (at_pipes s li lo ro ri) (at_pipes s' li lo ro ri') o o h h' p p' serves serves' result
 took_right l r s s' li lo ro ri ri' o h h' p p' serves serves' result e took blocked refused cause serve place heard =
     alone l r _ _ o h h' p p' serves serves' result (λ room. if_ok result _ _ (λ moved empty. rw e (empty_blocked moved ri empty)) blocked)
-    (λ user x. if_ok result _ _ (λ moved t. took_right_moves (quel user) moved l r s s' li lo ro ri ri' (told o) e t) (took user x))
+    (λ user x. if_ok result _ _ (λ moved t. took_right_moves (quel user) moved l r s s' li lo ro ri ri' (known o) e t) (took user x))
     (λ user x u. refused_right (quel user) s li lo ro ri o e (refused user x u)) cause serve place heard
 
 -- ---- it gave a frame
@@ -181,14 +181,14 @@ given_right : (W : Mode quel_sorts → NetworkRoom quel_sorts → Act quel_sorts
 given_right W L s s' [] f li lo ro ri room e g = absurd g
 given_right W L s s' (x ∷ xs) f li lo ro ri room e (e1, e2) = rw (e, e2, e1) refl
 
-gave_left_moves : (L : Language quel_sorts) (moved : Moved) (l r : ℕ) (s s' : LocalState quel_sorts) (li lo lo' ro ri : List Frame) (o : Told quel_sorts) → want s ≡ give_left → GaveTo moved l s lo s' lo' →
+gave_left_moves : (L : Language quel_sorts) (moved : Moved) (l r : ℕ) (s s' : LocalState quel_sorts) (li lo lo' ro ri : List Frame) (o : Known quel_sorts) → want s ≡ give_left → GaveTo moved l s lo s' lo' →
     PipedMoves L l r (was_blocked moved) (at_pipes s li lo ro ri) (at_pipes s' li lo' ro ri) o o
 gave_left_moves L Stepped l r s s' li lo lo' ro ri o e (f, lt, e1, g) =
     stays L l r false _ _ o (λ room. rw e (not_full (length lo) l lt)) (λ room. rw e tt) (λ W room. rw (e, e1) (given_left W L s s' s.out_left f li lo ro ri room refl (rw e at g)))
 gave_left_moves L Blocked l r s s' li lo lo' ro ri o e (le, e2, e3) =
     stays L l r true _ _ o (λ room. rw e (full (length lo) l le)) (λ room. tt) (λ W room. rw (e2, e3) refl)
 
-gave_right_moves : (L : Language quel_sorts) (moved : Moved) (l r : ℕ) (s s' : LocalState quel_sorts) (li lo ro ro' ri : List Frame) (o : Told quel_sorts) → want s ≡ give_right → GaveTo moved r s ro s' ro' →
+gave_right_moves : (L : Language quel_sorts) (moved : Moved) (l r : ℕ) (s s' : LocalState quel_sorts) (li lo ro ro' ri : List Frame) (o : Known quel_sorts) → want s ≡ give_right → GaveTo moved r s ro s' ro' →
     PipedMoves L l r (was_blocked moved) (at_pipes s li lo ro ri) (at_pipes s' li lo ro' ri) o o
 gave_right_moves L Stepped l r s s' li lo ro ro' ri o e (f, lt, e1, g) =
     stays L l r false _ _ o (λ room. rw e (not_full (length ro) r lt)) (λ room. rw e tt) (λ W room. rw (e, e1) (given_right W L s s' s.out_right f li lo ro ri room refl (rw e at g)))
@@ -208,7 +208,7 @@ pub gave_left : (l r : ℕ) (s s' : LocalState quel_sorts) (li lo lo' ro ri : Li
     PipedDone l r (at_pipes s li lo ro ri) (at_pipes s' li lo' ro ri) o o h h' p p' serves serves' result
 gave_left l r s s' li lo lo' ro ri o h h' p p' serves serves' result e gave cause serve place heard =
     alone l r _ _ o h h' p p' serves serves' result (λ room. if_ok result _ _ (λ moved g. rw e (full_blocked moved l s s' lo lo' g)) gave)
-    (λ user x. if_ok result _ _ (λ moved g. gave_left_moves (quel user) moved l r s s' li lo lo' ro ri (told o) e g) gave)
+    (λ user x. if_ok result _ _ (λ moved g. gave_left_moves (quel user) moved l r s s' li lo lo' ro ri (known o) e g) gave)
     (λ user x u. absurd (not_unlawful result cause u)) (of_memory result cause) serve place heard
 
 pub gave_right : (l r : ℕ) (s s' : LocalState quel_sorts) (li lo ro ro' ri : List Frame) (o : Outside) (h h' p p' : ℕ) (serves serves' : User → Type 0) (result : Result Moved WorkFault) → want s ≡ give_right →
@@ -216,7 +216,7 @@ pub gave_right : (l r : ℕ) (s s' : LocalState quel_sorts) (li lo ro ro' ri : L
     PipedDone l r (at_pipes s li lo ro ri) (at_pipes s' li lo ro' ri) o o h h' p p' serves serves' result
 gave_right l r s s' li lo ro ro' ri o h h' p p' serves serves' result e gave cause serve place heard =
     alone l r _ _ o h h' p p' serves serves' result (λ room. if_ok result _ _ (λ moved g. rw e (full_blocked moved r s s' ro ro' g)) gave)
-    (λ user x. if_ok result _ _ (λ moved g. gave_right_moves (quel user) moved l r s s' li lo ro ro' ri (told o) e g) gave)
+    (λ user x. if_ok result _ _ (λ moved g. gave_right_moves (quel user) moved l r s s' li lo ro ro' ri (known o) e g) gave)
     (λ user x u. absurd (not_unlawful result cause u)) (of_memory result cause) serve place heard
 
 -- ---- it has ended
@@ -225,4 +225,4 @@ pub stopped : (l r : ℕ) (s : LocalState quel_sorts) (li lo ro ri : List Frame)
     PipedDone l r (at_pipes s li lo ro ri) (at_pipes s li lo ro ri) o o h h p p serves serves (Ok Blocked)
 stopped l r s li lo ro ri o h p serves e =
     alone l r _ _ o h h p p serves serves (Ok Blocked) (λ room. rw e refl)
-    (λ user x. stays (quel user) l r true _ _ (told o) (λ room. rw e refl) (λ room. tt) (λ W room. refl)) (λ user x u. cc) tt (λ user x. x) refl refl
+    (λ user x. stays (quel user) l r true _ _ (known o) (λ room. rw e refl) (λ room. tt) (λ W room. refl)) (λ user x u. cc) tt (λ user x. x) refl refl

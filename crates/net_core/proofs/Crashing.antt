@@ -2,14 +2,14 @@
 use Rattle.std.proofs.Common.{OnOk, ◌≡◌, ◌<◌, ◌≤◌, ℕ, Bool, true, false, List, length, take, get_or, Some, Result, Ok, Err, refl, sym, subst, ◌∙◌}
 use Rattle.std.specs.declared.option.Option.{Option}
 use Rattle.std.proofs.lemmas.Option.{same_Some}
-use Rattle.am_traits.proofs.Crashes.{asked_leaves, leaves_as, leaves_more, nothing_else, still_stands}
-use Rattle.am_traits.specs.Crashes.{LeavesBut, Stands}
+use Rattle.base_trait.proofs.Crashes.{asked_leaves, leaves_as, leaves_more, nothing_else, still_stands}
+use Rattle.base_trait.specs.Crashes.{LeavesBut, AllDenote}
 use Rattle.calculus.specs.Database.{Db}
 use Rattle.net_core.specs.Crashes.{HandsOver, MayLeave, QuietWithout, StaysDurable, StepCrash, StepLeaves, TurnsLeave, WorkLeaves}
-use Rattle.net_core.specs.Told.{KeepsDatabase, Outside, told}
+use Rattle.net_core.specs.Known.{KeepsDatabase, Outside, known}
 use Rattle.net_core.specs.Whole.{seen, state_at}
 use Rattle.net_core.proofs.Turning.{TurnsDone}
-use Rattle.network_meaning.specs.Calls.{Moves, Shape, Tells, stage_number}
+use Rattle.network_meaning.specs.Calls.{Moves, Shape, Knows, stage_number}
 use Rattle.network_meaning.specs.Language.{Language}
 use Rattle.network_meaning.specs.LocalSteps.{Mode, Want as Wish, Want.work, Room as NetworkRoom}
 use Rattle.network_meaning.specs.Network.{LocalState, want}
@@ -18,8 +18,8 @@ use Rattle.quel_network.specs.Sorts.{User, quel_sorts}
 
 -- ---- what is left by one behind another
 
-stands_same : (clock : ℕ) (left : ℕ → Option Db → Type 0) (d : Option Db) (db db' : Db) → d ≡ Some db → d ≡ Some db' → Stands clock left db → Stands clock left db'
-stands_same clock left d db db' e e' = subst (λ x. Stands clock left x) (same_Some db db' (sym e ∙ e'))
+stands_same : (clock : ℕ) (left : ℕ → Option Db → Type 0) (d : Option Db) (db db' : Db) → d ≡ Some db → d ≡ Some db' → AllDenote clock left db → AllDenote clock left db'
+stands_same clock left d db db' e e' = subst (λ x. AllDenote clock left x) (same_Some db db' (sym e ∙ e'))
 
 pub durable_same : (o : Outside) (left : ℕ → Option Db → Type 0) → StaysDurable o o left left
 durable_same o left db db' e e' = stands_same o.clock left o.database db db' e e'
@@ -41,7 +41,7 @@ work_asked L mode o o' left left' asked room t = asked_leaves _ o.clock o'.clock
 
 pub durable_asked : (o o' : Outside) (left left' : ℕ → Option Db → Type 0) → o'.database ≡ o.database → ((t : ℕ) (d : Option Db) → t ≤ o'.clock → left' o'.clock d → left' t d) → LeavesBut (λ d. ⊥) o.clock o'.clock left left' → StaysDurable o o' left left'
 durable_asked o o' left left' same counts asked db db' e e' s =
-    subst (λ x. Stands o'.clock left' x) (same_Some db db' (sym e ∙ sym same ∙ e')) (still_stands o.clock o'.clock left left' db counts asked s)
+    subst (λ x. AllDenote o'.clock left' x) (same_Some db db' (sym e ∙ sym same ∙ e')) (still_stands o.clock o'.clock left left' db counts asked s)
 
 -- ---- one stage
 
@@ -89,13 +89,13 @@ left_by_stage serves all s s' t o o' left left' schema result e part d = record 
 
 -- what the turns so far have done to the disk, of these in all
 pub record TurnsCrash (capacity : ℕ) (turns : List ℕ) (serves : User → Type 0) (old : Shape quel_sorts) (before after : Outside) (left left' : ℕ → Option Db → Type 0) : Type 0 where
-  pub tells : (user : User) → serves user → (r : NetworkRoom quel_sorts) → Tells (told before) r → (r' : NetworkRoom quel_sorts) × Tells (told after) r'
+  pub knows : (user : User) → serves user → (r : NetworkRoom quel_sorts) → Knows (known before) r → (r' : NetworkRoom quel_sorts) × Knows (known after) r'
   pub crash : (user : User) → serves user → TurnsLeave (quel user) capacity turns (seen old before) before.clock after.clock left left'
   pub durable : StaysDurable before after left left'
 
 pub no_turn : (capacity : ℕ) (turns : List ℕ) (serves : User → Type 0) (old : Shape quel_sorts) (o : Outside) (left : ℕ → Option Db → Type 0) → TurnsCrash capacity turns serves old o o left left
 no_turn capacity turns serves old o left = record {
-  tells = λ user x r t. (r, t);
+  knows = λ user x r t. (r, t);
   crash = λ user x r t. nothing_else _ o.clock left;
   durable = durable_same o left;
 }
@@ -106,14 +106,14 @@ pub turns_leave : (capacity : ℕ) (turns : List ℕ) (i : ℕ) (a b : Shape que
     ((user : User) → serves' user → StepLeaves (quel user) (state_at b (stage_number (get_or turns i 0))) o' o'' left' left'') →
     (user : User) → serves user → TurnsLeave (quel user) capacity turns (seen a o) o.clock o''.clock left left''
 turns_leave capacity turns i a b o o' o'' h h' one one' serves serves' numbers numbers' left left' left'' lt d c step user x r t =
-    let mid = c.tells user x r t in
+    let mid = c.knows user x r t in
     leaves_more _ _ o.clock o'.clock o''.clock left left' left'' (λ db may. record {
       at = i;
       there = lt;
       before = seen b o';
       room = mid.0;
       runs = d.runs user x;
-      told = mid.1;
+      known = mid.1;
       leaves = may;
     }) (c.crash user x r t) (step user (d.serve user x) mid.0 mid.1)
 
@@ -123,7 +123,7 @@ pub one_more_turn : (capacity capacity' : ℕ) (turns : List ℕ) (i : ℕ) (blo
     ((user : User) → serves' user → StepLeaves (quel user) (state_at b (stage_number (get_or turns i 0))) o' o'' left' left'') →
     StaysDurable o' o'' left' left'' → TurnsCrash capacity turns serves a o o'' left left''
 one_more_turn capacity capacity' turns i blocked a b c o o' o'' h h' one one' serves serves' numbers numbers' left left' left'' lt d was moves step durable = record {
-  tells = λ user x r t. let mid = was.tells user x r t in let x' = (moves user (d.serve user x)).exact mid.0 mid.1 in (x'.room', x'.told);
+  knows = λ user x r t. let mid = was.knows user x r t in let x' = (moves user (d.serve user x)).exact mid.0 mid.1 in (x'.room', x'.known);
   crash = turns_leave capacity turns i a b o o' o'' h h' one one' serves serves' numbers numbers' left left' left'' lt d was step;
   durable = durable_more o o' o'' left left' left'' d.database was.durable durable;
 }

@@ -1,4 +1,4 @@
--- A run that has ended, and what is told of it to the left.
+-- A run that has ended, and what is known of it to the left.
 use Rattle.std.proofs.Common.{◌≡◌, ◌⊎◌, refl, sym, ap, subst, ◌∙◌, ℕ, Bool, true, false, List, [], ◌∷◌, ◌++◌, append-nil, arith, inl, inr, Ok, Err, if◌then◌else◌}
 use Rattle.std.specs.Prelude.{◌==◌, Contains}
 use Rattle.std.proofs.lemmas.Cmp.{eq_by_cmp_equiv, nat_cmp_total}
@@ -7,12 +7,12 @@ use Rattle.calculus.specs.Database.{Db}
 use Rattle.std.specs.declared.option.Option.{Option}
 use Rattle.std.specs.Io.KnownBytes.{Appends}
 use Rattle.std.proofs.KnownBytes.{Appends-trans}
-use Rattle.fault_io.specs.Told.{GrewBy, IsFront}
+use Rattle.fault_io.specs.Known.{GrewBy, IsFront}
 use Rattle.frame_codec.specs.Frames.{frames_bytes}
 use Rattle.net_core.specs.declared.fault.WorkFault.{WorkFault}
 use Rattle.net_core.specs.declared.fault.WorkFault.TheVariants as faults
 use Rattle.net_core.specs.Spares.{IsNoFaultOfEnds}
-use Rattle.net_core.specs.Told.{Outside}
+use Rattle.net_core.specs.Known.{Outside}
 use Rattle.network_meaning.specs.Network.{LocalState}
 use Rattle.quel_network.specs.Quel.{quel}
 use Rattle.quel_network.specs.Sorts.{User, quel_sorts}
@@ -52,7 +52,7 @@ done_ok serves place heard s s' schema schema' old new before after left left' x
   ended = r.ended;
 }
 
--- ---- what is told behind all frames
+-- ---- what is known behind all frames
 
 -- counts rise on
 faltered_more : (b m a : Outlet) → OutletLater b m → Faltered m a → Faltered b a
@@ -70,7 +70,7 @@ all_behind : (b m a : Outlet) (all tail : List ℕ) → OutletLater b m → Appe
 all_behind b m a all tail l w (inl t) = inl (Appends-trans b.written m.written a.written all tail w t)
 all_behind b m a all tail l w (inr f) = inr (faltered_more b m a l f)
 
--- what is told is written behind all frames
+-- what is known is written behind all frames
 told_behind : (b m a : Outlet) (all tail : List ℕ) → OutletLater b m → Appends b.written m.written all → Wrote m a tail → Wrote b a (all ++ tail)
 told_behind b m a all tail l w t = record { front = front_behind b.written m.written a.written all tail (all ++ tail) w refl t.front; all = all_behind b m a all tail l w t.all }
 
@@ -88,7 +88,7 @@ all_on : (b m a : Outlet) (bytes : List ℕ) → OutletLater b m → OutletLater
 all_on b m a bytes l k t (inl w) = inl (subst (Appends b.written a.written) (append-nil bytes) (Appends-trans b.written m.written a.written bytes [] w t))
 all_on b m a bytes l k t (inr f) = inr (faltered_on b m a k f)
 
--- nothing is told
+-- nothing is known
 none_behind : (b m a : Outlet) (bytes tail : List ℕ) → OutletLater b m → OutletLater m a → Wrote b m bytes → tail ≡ [] → Wrote m a tail → Wrote b a (bytes ++ tail)
 none_behind b m a bytes tail l k w e t =
     let same : GrewBy m.written a.written (λ more. IsFront more []) = subst (λ (x : List ℕ). GrewBy m.written a.written (λ more. IsFront more x)) e t.front in

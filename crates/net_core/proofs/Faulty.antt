@@ -9,7 +9,7 @@ use Rattle.net_core.specs.declared.fault.WorkFault.{WorkFault}
 use Rattle.net_core.specs.declared.fault.WorkFault.TheVariants as faults
 use Rattle.net_core.specs.Reads.{CountsHeard, ReadsOn, Within}
 use Rattle.net_core.specs.Spares.{Counts, CountsOnlyBy, IsInside, counts}
-use Rattle.net_core.specs.Told.{KeepsDatabase, KeepsScript, Later, Outside}
+use Rattle.net_core.specs.Known.{KeepsDatabase, KeepsScript, Later, Outside}
 
 -- ---- one part of those that read
 
@@ -19,7 +19,7 @@ may_come_more heard whole rest before after faults.Sink e c = c
 may_come_more heard whole rest before after faults.Disk e c = c
 may_come_more heard whole rest before after (faults.Damaged file page) e c = c
 may_come_more heard whole rest before after faults.Shelf e c = c
-may_come_more heard whole rest before after faults.TooLong e c = λ script told. omega (arith, c script told)
+may_come_more heard whole rest before after faults.TooLong e c = λ script known. omega (arith, c script known)
 may_come_more heard whole rest before after faults.Unlawful e c = tt
 may_come_more heard whole rest before after faults.OutOfMemory e c = tt
 
@@ -29,7 +29,7 @@ caused_more heard whole rest before after (Err fault) e c = may_come_more heard 
 
 pub reads_more : (heard heard' whole whole' rest : ℕ) (before after : Outside) (failed : Type 0) → whole ≡ heard + rest → whole' ≡ heard' + rest → ReadsOn heard heard' before after failed → ReadsOn whole whole' before after failed
 reads_more heard heard' whole whole' rest before after failed e e' k = record {
-  line = λ script told. let (front, last, left, is, all, counted, free, one) = k.line script told in (front, last, left, is, all, omega (arith, counted, e, e'), free, one);
+  line = λ script known. let (front, last, left, is, all, counted, free, one) = k.line script known in (front, last, left, is, all, omega (arith, counted, e, e'), free, one);
   broken = k.broken;
   given = let (n, counted, gave) = k.given in (n, omega (arith, counted, e, e'), gave);
 }
@@ -49,18 +49,18 @@ later_more a b c f g = record {
 }
 
 pub script_same : (heard heard' : ℕ) (o : Outside) → heard' ≡ heard → KeepsScript heard heard' o o
-script_same heard heard' o e script told = ([], script, told, refl, omega (arith, e))
+script_same heard heard' o e script known = ([], script, known, refl, omega (arith, e))
 
 pub script_more : (h h' h'' : ℕ) (a b c : Outside) → KeepsScript h h' a b → KeepsScript h' h'' b c → KeepsScript h h'' a c
-script_more h h' h'' a b c f g script told =
-    let (xs, mid, is, all, counted) = f script told in
+script_more h h' h'' a b c f g script known =
+    let (xs, mid, is, all, counted) = f script known in
     let (ys, rest, is', all', counted') = g mid is in
     let sum = length-append xs ys in
     (xs ++ ys, rest, is', all ∙ ap (λ x. xs ++ x) all' ∙ sym (append_assoc xs ys rest), omega (arith, counted, counted', sum))
 
 -- what one step reads
 pub script_of : (h h' : ℕ) (before after : Outside) (failed : Type 0) → ReadsOn h h' before after failed → KeepsScript h h' before after
-script_of h h' before after failed k script told = let (front, last, rest, is, all, counted, free, one) = k.line script told in (front ++ last, rest, is, all, counted)
+script_of h h' before after failed k script known = let (front, last, rest, is, all, counted, free, one) = k.line script known in (front ++ last, rest, is, all, counted)
 
 pub heard_same : (h h' given : ℕ) → h' ≡ h → CountsHeard h h' given given
 heard_same h h' given e = (0, omega (arith, e), inl (omega arith))
@@ -75,16 +75,16 @@ heard_more h h' h'' a b c (n, e, f) (m, e', g) = (n + m, omega (arith, e, e'), g
 
 pub reads_same : (h h' : ℕ) (o : Outside) (failed : Type 0) → h' ≡ h → ReadsOn h h' o o failed
 reads_same h h' o failed e = record {
-  line = λ script told. ([], [], script, told, refl, omega (arith, e), refl, omega arith);
-  broken = λ f script told. ([], script, told, refl, refl);
+  line = λ script known. ([], [], script, known, refl, omega (arith, e), refl, omega arith);
+  broken = λ f script known. ([], script, known, refl, refl);
   given = heard_same h h' o.given e;
 }
 
 pub database_same : (o : Outside) → KeepsDatabase o o
-database_same o db told = (db, told)
+database_same o db known = (db, known)
 
 pub database_more : (a b c : Outside) → KeepsDatabase a b → KeepsDatabase b c → KeepsDatabase a c
-database_more a b c f g db told = let first = f db told in g first.0 first.1
+database_more a b c f g db known = let first = f db known in g first.0 first.1
 
 none_before : (o o' : Option Db) → ((db : Db) → o ≡ Some db → (later : Db) × (o' ≡ Some later)) → o' ≡ None → o ≡ None
 none_before None o' k e = refl
@@ -100,7 +100,7 @@ may_come_from heard heard' old mid after faults.Sink l s d (inr c) = inr (rose_f
 may_come_from heard heard' old mid after faults.Disk l s d c = rose_from _ _ _ l.base c
 may_come_from heard heard' old mid after (faults.Damaged file page) l s d c = none_before old.database mid.database d c
 may_come_from heard heard' old mid after faults.Shelf l s d c = rose_from _ _ _ l.shelf c
-may_come_from heard heard' old mid after faults.TooLong l s d c = λ script told. let (bytes, rest, is, all, counted) = s script told in let sum = ap length all ∙ length-append bytes rest in omega (arith, counted, sum, c rest is)
+may_come_from heard heard' old mid after faults.TooLong l s d c = λ script known. let (bytes, rest, is, all, counted) = s script known in let sum = ap length all ∙ length-append bytes rest in omega (arith, counted, sum, c rest is)
 may_come_from heard heard' old mid after faults.Unlawful l s d c = tt
 may_come_from heard heard' old mid after faults.OutOfMemory l s d c = tt
 
@@ -137,8 +137,8 @@ within_apart one (Err faults.OutOfMemory) h le = le
 -- the script and the count of the source are as they were
 pub reads_nothing : (h : ℕ) (before after : Outside) (failed : Type 0) → after.script ≡ before.script → after.given ≡ before.given → ReadsOn h h before after failed
 reads_nothing h before after failed same given = record {
-  line = λ script told. ([], [], script, same ∙ told, refl, omega arith, refl, omega arith);
-  broken = λ f script told. ([], script, same ∙ told, refl, refl);
+  line = λ script known. ([], [], script, same ∙ known, refl, omega arith, refl, omega arith);
+  broken = λ f script known. ([], script, same ∙ known, refl, refl);
   given = (0, omega arith, inl (omega (arith, given)));
 }
 

@@ -7,7 +7,7 @@ use Rattle.frame_codec.specs.declared.frame.Frame.{Frame}
 use Rattle.frame_codec.specs.Frames.{frames_bytes}
 use Rattle.net_core.specs.declared.steps.Moved.{Moved}
 use Rattle.net_core.specs.declared.steps.Moved.TheVariants.{Stepped, Blocked}
-use Rattle.net_core.specs.Told.{KeepsDatabase, Outside}
+use Rattle.net_core.specs.Known.{KeepsDatabase, Outside}
 use Rattle.net_core.proofs.Faulty.{database_same, heard_same, later_same, script_same}
 use Rattle.network_meaning.specs.LocalSteps.{Want.take_right, Want.give_left, Want.give_right, Want.work}
 use Rattle.network_meaning.specs.Network.{LocalState, want}
@@ -129,11 +129,11 @@ give_left_done serves past p s' out' heard' (Err f) w g (inr (e, part)) = subst 
 
 -- the hand behind a gift to the right
 abbrev pub gave_at_right : Hand → LocalState quel_sorts → Option (List ℕ) → ℕ → Outlet → ℕ → Hand
-gave_at_right p s' told' faults' out' heard' = record {
+gave_at_right p s' known' faults' out' heard' = record {
   state = s';
   outside = p.outside;
   schema = p.schema;
-  sides = record { left = p.sides.left; right = record { left = told'; faults = faults'; out = out' } };
+  sides = record { left = p.sides.left; right = record { left = known'; faults = faults'; out = out' } };
   talk = p.talk;
   heard = heard';
 }
@@ -196,9 +196,9 @@ right_done serves past p s' out' heard' (Err f) w g both (inl (e, k)) =
 right_done serves past p s' out' heard' (Err f) w g both (inr (e, part)) =
     subst (λ (x : LoopFault). StepDone serves past p (gave_at_right p s' p.sides.right.left out'.faults out' heard') (Err x)) (sym e) (right_part serves past p s' out'.faults out' heard' w g part (let l = part.later.faults in omega (arith, l, both)))
 
-pub give_right_done : (serves : User → Type 0) (past : Past) (p : Hand) (s' : LocalState quel_sorts) (told' : Option (List ℕ)) (out' : Outlet) (heard' : ℕ) (result : Result Moved LoopFault) → want p.state ≡ give_right → Goes past p →
-    p.sides.right.out.faults ≡ p.sides.right.faults → told' ≡ p.sides.right.left → Gave p.state s' p.sides.right.out out' fault.Right result → StepDone serves past p (gave_at_right p s' told' out'.faults out' heard') result
-give_right_done serves past p s' told' out' heard' result w g both e gave = subst (λ (t : Option (List ℕ)). StepDone serves past p (gave_at_right p s' t out'.faults out' heard') result) (sym e) (right_done serves past p s' out' heard' result w g both gave)
+pub give_right_done : (serves : User → Type 0) (past : Past) (p : Hand) (s' : LocalState quel_sorts) (known' : Option (List ℕ)) (out' : Outlet) (heard' : ℕ) (result : Result Moved LoopFault) → want p.state ≡ give_right → Goes past p →
+    p.sides.right.out.faults ≡ p.sides.right.faults → known' ≡ p.sides.right.left → Gave p.state s' p.sides.right.out out' fault.Right result → StepDone serves past p (gave_at_right p s' known' out'.faults out' heard') result
+give_right_done serves past p s' known' out' heard' result w g both e gave = subst (λ (t : Option (List ℕ)). StepDone serves past p (gave_at_right p s' t out'.faults out' heard') result) (sym e) (right_done serves past p s' out' heard' result w g both gave)
 
 -- ---- to work
 
@@ -243,11 +243,11 @@ NoWork (Ok x) = ⊤
 NoWork (Err (fault.Work f)) = ⊥
 NoWork (Err _) = ⊤
 
-pub take_no_work : (serves : User → Type 0) (s s' : LocalState quel_sorts) (told told' : Option (List ℕ)) (i i' : Incoming) (failed : LoopFault) (result : Result Moved LoopFault) → IsHeld i →
-    ((taken : List Frame) (bytes : List ℕ) → Holds taken bytes i → TakeDone serves s s' taken bytes told told' failed i' result) → NoWork result
-take_no_work serves s s' told told' i i' failed result (taken, bytes, held) done = go result (done taken bytes held)
+pub take_no_work : (serves : User → Type 0) (s s' : LocalState quel_sorts) (known known' : Option (List ℕ)) (i i' : Incoming) (failed : LoopFault) (result : Result Moved LoopFault) → IsHeld i →
+    ((taken : List Frame) (bytes : List ℕ) → Holds taken bytes i → TakeDone serves s s' taken bytes known known' failed i' result) → NoWork result
+take_no_work serves s s' known known' i i' failed result (taken, bytes, held) done = go result (done taken bytes held)
   where
-    go : (r : Result Moved LoopFault) → TakeDone serves s s' taken bytes told told' failed i' r → NoWork r
+    go : (r : Result Moved LoopFault) → TakeDone serves s s' taken bytes known known' failed i' r → NoWork r
     go (Ok x) d = tt
     go (Err (fault.Work f)) d = d.took.2
     go (Err fault.LeftRead) d = tt

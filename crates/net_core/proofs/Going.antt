@@ -6,7 +6,7 @@ use Rattle.std.specs.Io.KnownBytes.{Appends}
 use Rattle.std.proofs.KnownBytes.{Appends-trans, Consumes-trans}
 use Rattle.std.proofs.lemmas.List.Concat.{flat_map-append}
 use Rattle.fault_io.specs.Causes.{Rose}
-use Rattle.fault_io.specs.Told.{GrewBy, IsFront}
+use Rattle.fault_io.specs.Known.{GrewBy, IsFront}
 use Rattle.frame_codec.specs.declared.frame.Frame.{Frame}
 use Rattle.frame_codec.specs.Frames.{frame_bytes, frames_bytes}
 use Rattle.frame_codec.specs.Reading.{Reading, behind_frames, read}
@@ -66,9 +66,9 @@ pub stays_later : (b n : Side) (taken given : List Frame) (bytes : List ℕ) (i 
 stays_later b n taken given bytes i g = record { faults = let e = g.faults in omega (arith, e); out = same_later b.out n.out g.counts }
 
 -- the reading end was called
-pub read_later : (b n : Side) (taken given : List Frame) (bytes : List ℕ) (i : Incoming) (told' : Option (List ℕ)) (faults' : ℕ) (out' : Outlet) → SideGoes b n taken given bytes i → n.faults ≤ faults' → OutletLater n.out out' →
-    SideLater b (record { left = told'; faults = faults'; out = out' })
-read_later b n taken given bytes i told' faults' out' g le l = record { faults = let e = g.faults in omega (arith, e, le); out = outlet_later b.out n.out out' g.counts l }
+pub read_later : (b n : Side) (taken given : List Frame) (bytes : List ℕ) (i : Incoming) (known' : Option (List ℕ)) (faults' : ℕ) (out' : Outlet) → SideGoes b n taken given bytes i → n.faults ≤ faults' → OutletLater n.out out' →
+    SideLater b (record { left = known'; faults = faults'; out = out' })
+read_later b n taken given bytes i known' faults' out' g le l = record { faults = let e = g.faults in omega (arith, e, le); out = outlet_later b.out n.out out' g.counts l }
 
 -- ---- what was read
 
@@ -81,14 +81,14 @@ pub wrote_as : (b n : Side) (taken given : List Frame) (bytes : List ℕ) (i : I
 wrote_as b n taken given bytes i out' g e = subst (λ (w : Option (List ℕ)). Appends b.out.written w (frames_bytes given)) (sym e) g.wrote
 
 -- a frame was taken
-pub side_took : (b n : Side) (taken given : List Frame) (bytes more : List ℕ) (i i' : Incoming) (frame : Frame) (told' : Option (List ℕ)) (faults' : ℕ) (out' : Outlet) → SideGoes b n taken given bytes i →
-    HasRead n.left more told' → (IsNeeded (length taken) bytes → IsNeeded (length taken + 1) (bytes ++ more)) → Holds (taken ++ frame ∷ []) (bytes ++ more) i' → faults' ≡ n.faults → out'.written ≡ n.out.written → SameCounts n.out out' →
-    SideGoes b (record { left = told'; faults = faults'; out = out' }) (taken ++ frame ∷ []) given (bytes ++ more) i'
-side_took b n taken given bytes more i i' frame told' faults' out' g heard needed holds same written counts =
+pub side_took : (b n : Side) (taken given : List Frame) (bytes more : List ℕ) (i i' : Incoming) (frame : Frame) (known' : Option (List ℕ)) (faults' : ℕ) (out' : Outlet) → SideGoes b n taken given bytes i →
+    HasRead n.left more known' → (IsNeeded (length taken) bytes → IsNeeded (length taken + 1) (bytes ++ more)) → Holds (taken ++ frame ∷ []) (bytes ++ more) i' → faults' ≡ n.faults → out'.written ≡ n.out.written → SameCounts n.out out' →
+    SideGoes b (record { left = known'; faults = faults'; out = out' }) (taken ++ frame ∷ []) given (bytes ++ more) i'
+side_took b n taken given bytes more i i' frame known' faults' out' g heard needed holds same written counts =
     let sum = length-append taken (frame ∷ []) in
     record {
       holds = holds;
-      heard = Consumes-trans b.left n.left told' bytes more g.heard heard;
+      heard = Consumes-trans b.left n.left known' bytes more g.heard heard;
       needed = needed_later (length taken + 1) (length (taken ++ frame ∷ [])) (bytes ++ more) (omega (arith, sum)) (needed g.needed);
       wrote = wrote_as b n taken given bytes i out' g written;
       faults = same ∙ g.faults;
@@ -100,10 +100,10 @@ pub side_read : (b n : Side) (taken given : List Frame) (bytes : List ℕ) (i : 
 side_read b n taken given bytes i asked faults' out' g le = record { heard = g.heard; frames = g.holds.is; needed = needed_later (length taken) asked bytes le g.needed }
 
 -- no frame was taken, and more was read
-pub side_lacks : (b n : Side) (taken given : List Frame) (bytes more : List ℕ) (i : Incoming) (unread : Reading) (told' : Option (List ℕ)) (faults' : ℕ) (out' : Outlet) → SideGoes b n taken given bytes i →
-    HasRead n.left more told' → (IsNeeded (length taken) bytes → IsNeeded (length taken + 1) (bytes ++ more)) → behind_frames taken unread ≡ read 0 (bytes ++ more) →
-    SideRead b (record { left = told'; faults = faults'; out = out' }) taken (length taken + 1) (bytes ++ more) unread
-side_lacks b n taken given bytes more i unread told' faults' out' g heard needed is = record { heard = Consumes-trans b.left n.left told' bytes more g.heard heard; frames = is; needed = needed g.needed }
+pub side_lacks : (b n : Side) (taken given : List Frame) (bytes more : List ℕ) (i : Incoming) (unread : Reading) (known' : Option (List ℕ)) (faults' : ℕ) (out' : Outlet) → SideGoes b n taken given bytes i →
+    HasRead n.left more known' → (IsNeeded (length taken) bytes → IsNeeded (length taken + 1) (bytes ++ more)) → behind_frames taken unread ≡ read 0 (bytes ++ more) →
+    SideRead b (record { left = known'; faults = faults'; out = out' }) taken (length taken + 1) (bytes ++ more) unread
+side_lacks b n taken given bytes more i unread known' faults' out' g heard needed is = record { heard = Consumes-trans b.left n.left known' bytes more g.heard heard; frames = is; needed = needed g.needed }
 
 -- ---- what was written
 

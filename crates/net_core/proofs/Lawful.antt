@@ -3,7 +3,7 @@ use Rattle.std.proofs.Common.{◌≡◌, inl, inr, ℕ, Bool, true, false, List,
 use Rattle.std.proofs.KnownBytes.{Appends-nil, Appends-trans}
 use Rattle.frame_codec.specs.declared.frame.Frame.{Frame}
 use Rattle.net_core.specs.Causes.{MayNotTake}
-use Rattle.net_core.specs.Told.{FailedStep, Outside}
+use Rattle.net_core.specs.Known.{FailedStep, Outside}
 use Rattle.net_core.specs.Whole.{IsDisorderly, MayNotStep, WroteFront, seen, state_at}
 use Rattle.network_meaning.specs.Calls.{KeepsAll, Moves, Seen, Shape, TakenAs, join, stage_number}
 use Rattle.network_meaning.specs.Failing.{Begins, work_bytes}
@@ -39,9 +39,9 @@ pub wrote_behind : (L : Language quel_sorts) (old mid : Seen quel_sorts) (after 
 wrote_behind L old mid after keeps wrote r t o =
     let kept = keeps r t o in
     let (xs, is, grew) = kept.wrote in
-    let (ys, grew', begins) = wrote kept.room kept.told kept.orderly in (
+    let (ys, grew', begins) = wrote kept.room kept.known kept.orderly in (
       xs ++ ys,
-      Appends-trans old.told.out mid.told.out after.output xs ys grew grew',
+      Appends-trans old.known.out mid.known.out after.output xs ys grew grew',
       (begins.0, sym kept.same ∙ begins.1 ∙ ap (λ (x : List ℕ). (x ++ ys) ++ begins.0) is ∙ ap (λ (x : List ℕ). x ++ begins.0) (append_assoc r.out xs ys)),
     )
 
@@ -73,7 +73,7 @@ disorderly L laws k n before (inl (f, comes_here, refused)) r t o =
 disorderly L laws k n before (inr (w, unfit)) r t o = unfit r.db r.shelf t.db t.shelf (subst (λ (s : LocalState quel_sorts). FitWork L s.mode r.db) (stage_is k n r) (fit_work L k (join n r) o))
 
 pub disorderly_behind : (L : Language quel_sorts) (old mid : Seen quel_sorts) → KeepsAll L old mid → IsDisorderly L mid → IsDisorderly L old
-disorderly_behind L old mid keeps bad r t o = let kept = keeps r t o in bad kept.room kept.told kept.orderly
+disorderly_behind L old mid keeps bad r t o = let kept = keeps r t o in bad kept.room kept.known kept.orderly
 
 -- ---- what a step keeps
 

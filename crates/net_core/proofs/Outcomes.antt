@@ -4,7 +4,7 @@ use Rattle.net_core.specs.declared.fault.WorkFault.{WorkFault}
 use Rattle.net_core.specs.declared.fault.WorkFault.TheVariants as faults
 use Rattle.net_core.specs.declared.steps.Moved.{Moved}
 use Rattle.net_core.specs.Steps.{StepDone}
-use Rattle.net_core.specs.Told.{Outside}
+use Rattle.net_core.specs.Known.{Outside}
 use Rattle.net_core.specs.Wants.{was_blocked}
 use Rattle.net_core.specs.Whole.{IsDisorderly, WroteFront, seen}
 use Rattle.network_meaning.specs.Calls.{KeepsAll, Shape, stage_number}

@@ -5,10 +5,10 @@ use Rattle.net_core.specs.declared.fault.WorkFault.TheVariants as faults
 use Rattle.net_core.specs.Reads.{Within}
 use Rattle.net_core.specs.declared.steps.Moved.{Moved}
 use Rattle.net_core.specs.Steps.{FitUnlessBlocked, Piped, PipedDone, PipedMayNot, PipedMoves, PipedStepsBy, StepDone, in_room}
-use Rattle.net_core.specs.Told.{FailedStep, Outside, told}
+use Rattle.net_core.specs.Known.{FailedStep, Outside, known}
 use Rattle.net_core.specs.Wants.{was_blocked}
 use Rattle.net_core.specs.Whole.{MayNotStep, state_at}
-use Rattle.network_meaning.specs.Calls.{FitStep, Moves, Shape, Told, join}
+use Rattle.network_meaning.specs.Calls.{FitStep, Moves, Shape, Known, join}
 use Rattle.network_meaning.specs.Language.{Language}
 use Rattle.network_meaning.specs.LocalSteps.{Act, Mode, Works, Room as NetworkRoom, Want.work}
 use Rattle.network_meaning.specs.MessageNetwork.{StageNumber, StageNumber.first, StageNumber.second, StageNumber.third, StageNumber.fourth}
@@ -60,15 +60,15 @@ step_as W L second false n s r r' st = (in_room s r', st, refl)
 step_as W L third false n s r r' st = (in_room s r', st, refl)
 step_as W L fourth false n s r r' st = (in_room s r', st, refl)
 
-moves_as : (L : Language quel_sorts) (capacity : ℕ) (k : StageNumber) (blocked : Bool) (n : Shape quel_sorts) (s : Piped) (o o' : Told quel_sorts) → PipedMoves L (left_room capacity k) (right_room capacity k) blocked (piped_of n k) s o o' →
-    Moves L capacity k blocked (record { shape = n; told = o }) (record { shape = with_piped n k s; told = o' })
+moves_as : (L : Language quel_sorts) (capacity : ℕ) (k : StageNumber) (blocked : Bool) (n : Shape quel_sorts) (s : Piped) (o o' : Known quel_sorts) → PipedMoves L (left_room capacity k) (right_room capacity k) blocked (piped_of n k) s o o' →
+    Moves L capacity k blocked (record { shape = n; known = o }) (record { shape = with_piped n k s; known = o' })
 moves_as L capacity k blocked n s o o' m = record {
   is = λ r. subst (λ (b : Between quel_sorts). is_blocked (left_room capacity k) (right_room capacity k) b (want b.stage) ≡ blocked) (between_is k n r) (m.is r);
   shape = λ r. step_as (WorksInShape L) L k blocked n s r r (m.shape r);
   fit = λ r d s. fit_as L k blocked n r (subst (λ (b : Between quel_sorts). FitUnlessBlocked L b blocked) (between_is k n r) (m.fit r d s));
   exact = λ r t. let x = m.exact r t in record {
     room' = x.room';
-    told = x.told;
+    known = x.known;
     wrote = x.wrote;
     step = step_as (Works L) L k blocked n s r x.room' x.step;
   };
@@ -87,8 +87,8 @@ pub step_done : (capacity : ℕ) (k : StageNumber) (n n' : Shape quel_sorts) (s 
     (numbers → (k ≡ first → ⊥) → p ≡ 1 → ⊥) → (numbers → Within one one' result) → StepDone capacity k n n' o o' whole whole' one one' all all' numbers numbers' result
 step_done capacity k n n' s o o' h h' p p' whole whole' one one' rest serves serves' all all' numbers numbers' result d new sum sum' part join number apart within = record {
   blocked = λ r. subst (λ (b : Between quel_sorts). IfOk result (λ moved. is_blocked (left_room capacity k) (right_room capacity k) b (want b.stage) ≡ was_blocked moved)) (between_is k n r) (d.blocked r);
-  steps = λ user x. if_ok result _ _ (λ moved m. subst (λ (a : Shape quel_sorts). Moves (quel user) capacity k (was_blocked moved) (record { shape = n; told = told o }) (record { shape = a; told = told o' })) (sym new)
-      (moves_as (quel user) capacity k (was_blocked moved) n s (told o) (told o') m)) (d.steps user (part user x));
+  steps = λ user x. if_ok result _ _ (λ moved m. subst (λ (a : Shape quel_sorts). Moves (quel user) capacity k (was_blocked moved) (record { shape = n; known = known o }) (record { shape = a; known = known o' })) (sym new)
+      (moves_as (quel user) capacity k (was_blocked moved) n s (known o) (known o') m)) (d.steps user (part user x));
   failed = λ user x. subst (λ (a : LocalState quel_sorts). OnErr result (FailedStep (quel user) a o o')) (state_is k n) (d.failed user (part user x));
   unlawful = λ user x u. may_not_as (quel user) k n o (d.unlawful user (part user x) u);
   untouched = λ no. d.untouched (λ e. no (subst (λ (a : LocalState quel_sorts). want a ≡ work) (state_is k n) e));

@@ -6,7 +6,7 @@ use Rattle.net_core.proofs.Faulty.{database_more, database_same, heard_more, hea
 use Rattle.net_core.specs.declared.steps.Moved.{Moved}
 use Rattle.net_core.specs.declared.steps.Moved.TheVariants.{Stepped, Blocked}
 use Rattle.net_core.specs.Crashes.{StepLeaves}
-use Rattle.net_core.specs.Told.{KeepsDatabase, KeepsScript, Later, Outside}
+use Rattle.net_core.specs.Known.{KeepsDatabase, KeepsScript, Later, Outside}
 use Rattle.network_meaning.specs.Language.{Language}
 use Rattle.network_meaning.specs.Network.{LocalState}
 use Rattle.quel_network.specs.Quel.{quel}
@@ -21,7 +21,7 @@ use Rattle.net_core.specs.LoopSteps.{Goes, Hand, Past, Ran, RanWhole, RoomKept, 
 use Rattle.net_core.specs.WholeLoop.{Ending, HowEnded, LoopLeaves}
 use Rattle.net_core.proofs.Going.{side_read, stays_later, wrote_all}
 use Rattle.net_core.proofs.GivingSteps.{nothing_more}
-use Rattle.net_core.proofs.LoopCrashing.{TellsOn, leaves_alone, leaves_at, leaves_behind, leaves_on, nothing_left, step_tells}
+use Rattle.net_core.proofs.LoopCrashing.{KnowsOn, leaves_alone, leaves_at, leaves_behind, leaves_on, nothing_left, step_knows}
 use Rattle.net_core.proofs.TakingSteps.{ending, places_at}
 
 -- ---- steps, one after the other
@@ -42,7 +42,7 @@ pub record Running (serves : User → Type 0) (start : At) (before : Sides) (mad
   pub counted : length past.moves ≡ made
   pub goes : Goes past p
   pub runs : (user : User) → serves user → LocalRun (quel user) past.moves start (at_hand p)
-  pub tells : (user : User) → serves user → TellsOn start (at_hand p)
+  pub knows : (user : User) → serves user → KnowsOn start (at_hand p)
   pub crash : (user : User) → serves user → LoopLeaves (quel user) past.moves start p.outside.clock left left'
 
 side_begins : (b : Side) (i : Incoming) → Holds [] [] i → SideGoes b b [] [] [] i
@@ -61,7 +61,7 @@ running_begins serves s o schema before l r heard left hl hr = record {
     places = ap (λ (x : ℕ). places_at x r.place 0) hl.place ∙ ap (λ (x : ℕ). places_at 0 x 0) hr.place;
   };
   runs = λ user x. refl;
-  tells = λ user x room t. (room, t);
+  knows = λ user x room t. (room, t);
   crash = λ user x. nothing_left (quel user) (record { state = s; outside = o; schema = schema }) left;
 }
 
@@ -77,8 +77,8 @@ running_on serves serves' start before made p p' left left' left'' moved e r kee
       counted = omega (arith, sum, was);
       goes = goes;
       runs = λ user x. run_more (quel user) r.past.moves m start (at_hand p) (at_hand p') (r.runs user x) (by user (keep user x));
-      tells = λ user x room t. let mid = r.tells user x room t in step_tells (quel user) m (at_hand p) (at_hand p') (by user (keep user x)) mid.0 mid.1;
-      crash = λ user x. leaves_behind (quel user) r.past.moves (m ∷ []) start (at_hand p) p'.outside left left' left'' (r.runs user x) (r.tells user x) (r.crash user x) (crash user (keep user x));
+      knows = λ user x room t. let mid = r.knows user x room t in step_knows (quel user) m (at_hand p) (at_hand p') (by user (keep user x)) mid.0 mid.1;
+      crash = λ user x. leaves_behind (quel user) r.past.moves (m ∷ []) start (at_hand p) p'.outside left left' left'' (r.runs user x) (r.knows user x) (r.crash user x) (crash user (keep user x));
     }
 
 -- ---- a run that has ended
@@ -136,7 +136,7 @@ ran_failed serves serves' start place heard s' schema' old new before after left
       ran = ran_behind serves serves' start heard s' old new after r.past p f r.runs keep room.later room.script room.database last;
       known = tt;
       crash = λ user x. leaves_at (quel user) (r.past.moves ++ last.later) last.moves start new.clock left left'' last.is
-          (leaves_behind (quel user) r.past.moves last.later start (at_hand p) new left left' left'' (r.runs user x) (r.tells user x) (r.crash user x) (crash user (keep user x)));
+          (leaves_behind (quel user) r.past.moves last.later start (at_hand p) new left left' left'' (r.runs user x) (r.knows user x) (r.crash user x) (crash user (keep user x)));
     })
 
 -- no more steps are counted
@@ -162,7 +162,7 @@ ran_ended serves serves' start heard old before left left' left'' made p p' x mo
     let g = r.goes in
     let past = r.past in
     let still : (user : User) → serves user → LoopLeaves (quel user) past.moves start p.outside.clock left left'' = λ user s. leaves_alone (quel user) past.moves start p.outside.clock left left''
-    (leaves_behind (quel user) past.moves [] start (at_hand p) p.outside left left' left'' (r.runs user s) (r.tells user s) (r.crash user s) (subst (λ (q : Hand). StepLeaves (quel user) p.state p.outside q.outside left' left'') done.1 (crash user (keep user s)))) in
+    (leaves_behind (quel user) past.moves [] start (at_hand p) p.outside left left' left'' (r.runs user s) (r.knows user s) (r.crash user s) (subst (λ (q : Hand). StepLeaves (quel user) p.state p.outside q.outside left' left'') done.1 (crash user (keep user s)))) in
     subst (λ (q : Hand). RanWhole serves start heard q.state q.schema old q.outside before q.sides left left'' (Ok x)) (sym done.1)
     (subst (λ (b : Sides). RanWhole serves start heard p.state p.schema old p.outside b p.sides left left'' (Ok x)) r.began
     (record {

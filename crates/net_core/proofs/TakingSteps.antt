@@ -14,7 +14,7 @@ use Rattle.net_core.specs.declared.steps.Moved.TheVariants.{Stepped, Blocked}
 use Rattle.net_core.specs.declared.fault.WorkFault.{WorkFault}
 use Rattle.net_core.specs.declared.fault.WorkFault.TheVariants as faults
 use Rattle.net_core.specs.Spares.{SparesBy}
-use Rattle.net_core.specs.Told.{Outside}
+use Rattle.net_core.specs.Known.{Outside}
 use Rattle.network_meaning.specs.Calls.{Taken}
 use Rattle.network_meaning.specs.LocalSteps.{Want, Want.take_left, Want.take_right}
 use Rattle.network_meaning.specs.Network.{LocalState, want}
@@ -134,11 +134,11 @@ places_at l r x = record { left = l; right = r; last = x }
 
 -- the hand behind a step at the left
 abbrev pub at_left : Hand → LocalState quel_sorts → Option (List ℕ) → ℕ → Incoming → ℕ → Hand
-at_left p s' told' faults' i' heard' = record {
+at_left p s' known' faults' i' heard' = record {
   state = s';
   outside = p.outside;
   schema = p.schema;
-  sides = record { left = record { left = told'; faults = faults'; out = p.sides.left.out }; right = p.sides.right };
+  sides = record { left = record { left = known'; faults = faults'; out = p.sides.left.out }; right = p.sides.right };
   talk = record { left = i'; right = p.talk.right; last = p.talk.left.place };
   heard = heard';
 }
@@ -152,10 +152,10 @@ counts_of o o' e k = record { faults = e; stalls = k }
 later_counts : (o : Outlet) → OutletLater o o
 later_counts o = record { faults = omega arith; stalls = omega arith }
 
-took_from_left : (serves : User → Type 0) (past : Past) (p : Hand) (s' : LocalState quel_sorts) (told' : Option (List ℕ)) (faults' : ℕ) (i' : Incoming) (heard' : ℕ) (frame : Frame) (more : List ℕ) → want p.state ≡ take_left → Goes past p →
-    HasRead p.sides.left.left more told' → (IsNeeded (length (taken_left past.moves)) past.left → IsNeeded (length (taken_left past.moves) + 1) (past.left ++ more)) → Holds (taken_left past.moves ++ frame ∷ []) (past.left ++ more) i' →
-    ((user : User) → serves user → Taken (quel user) p.state frame s') → faults' ≡ p.sides.left.faults → StepDone serves past p (at_left p s' told' faults' i' heard') (Ok Stepped)
-took_from_left serves past p s' told' faults' i' heard' frame more w g heard needed holds taken same =
+took_from_left : (serves : User → Type 0) (past : Past) (p : Hand) (s' : LocalState quel_sorts) (known' : Option (List ℕ)) (faults' : ℕ) (i' : Incoming) (heard' : ℕ) (frame : Frame) (more : List ℕ) → want p.state ≡ take_left → Goes past p →
+    HasRead p.sides.left.left more known' → (IsNeeded (length (taken_left past.moves)) past.left → IsNeeded (length (taken_left past.moves) + 1) (past.left ++ more)) → Holds (taken_left past.moves ++ frame ∷ []) (past.left ++ more) i' →
+    ((user : User) → serves user → Taken (quel user) p.state frame s') → faults' ≡ p.sides.left.faults → StepDone serves past p (at_left p s' known' faults' i' heard') (Ok Stepped)
+took_from_left serves past p s' known' faults' i' heard' frame more w g heard needed holds taken same =
     let m = took_left frame in (
       m,
       past.left ++ more,
@@ -163,40 +163,40 @@ took_from_left serves past p s' told' faults' i' heard' frame more w g heard nee
       (λ user x. (w, taken user x, (refl, refl))),
       record {
         left = side_as past.before.left _ (taken_left past.moves ++ frame ∷ []) (taken_left (past.moves ++ m ∷ [])) (given_left past.moves) (given_left (past.moves ++ m ∷ [])) (past.left ++ more) i' (flat_one from_left past.moves m) (flat_same to_left past.moves m refl)
-            (side_took past.before.left p.sides.left (taken_left past.moves) (given_left past.moves) past.left more p.talk.left i' frame told' faults' p.sides.left.out g.left heard needed holds same refl (same_counts p.sides.left.out));
+            (side_took past.before.left p.sides.left (taken_left past.moves) (given_left past.moves) past.left more p.talk.left i' frame known' faults' p.sides.left.out g.left heard needed holds same refl (same_counts p.sides.left.out));
         right = side_as past.before.right p.sides.right (taken_right past.moves) (taken_right (past.moves ++ m ∷ [])) (given_right past.moves) (given_right (past.moves ++ m ∷ [])) past.right p.talk.right (flat_same from_right past.moves m refl) (flat_same to_right past.moves m refl) g.right;
         plain = subst (λ (fs : List Frame). All IsPlain fs) (sym (flat_same from_right past.moves m refl)) g.plain;
         places = ap (λ (x : ℕ). places_at x p.talk.right.place p.talk.left.place) (place_next (taken_left past.moves) past.left (past.left ++ more) p.talk.left i' frame g.left.holds holds) ∙ ap (λ (q : Places). passed q m) g.places ∙ sym (places_more first_places past.moves m);
       },
     )
 
-left_lacks : (serves : User → Type 0) (past : Past) (p : Hand) (s' : LocalState quel_sorts) (told' : Option (List ℕ)) (faults' : ℕ) (f : LoopFault) (more : List ℕ) → want p.state ≡ take_left → Goes past p →
-    HasRead p.sides.left.left more told' → (IsNeeded (length (taken_left past.moves)) past.left → IsNeeded (length (taken_left past.moves) + 1) (past.left ++ more)) → p.sides.left.faults ≤ faults' →
+left_lacks : (serves : User → Type 0) (past : Past) (p : Hand) (s' : LocalState quel_sorts) (known' : Option (List ℕ)) (faults' : ℕ) (f : LoopFault) (more : List ℕ) → want p.state ≡ take_left → Goes past p →
+    HasRead p.sides.left.left more known' → (IsNeeded (length (taken_left past.moves)) past.left → IsNeeded (length (taken_left past.moves) + 1) (past.left ++ more)) → p.sides.left.faults ≤ faults' →
     (f ≡ fault.LeftRead → Rose p.sides.left.faults faults') →
-    (unread : Reading) × (behind_frames (taken_left past.moves) unread ≡ read 0 (past.left ++ more)) × TakeFailed serves p.state (inlet (taken_left past.moves) (past.left ++ more) told' unread) fault.LeftRead f →
-    Ran serves (at_hand p) p.heard s' p.outside p.outside past.before (record { left = record { left = told'; faults = faults'; out = p.sides.left.out }; right = p.sides.right }) past.moves (Err f)
-left_lacks serves past p s' told' faults' f more w g heard needed le rose (unread, is, why) =
+    (unread : Reading) × (behind_frames (taken_left past.moves) unread ≡ read 0 (past.left ++ more)) × TakeFailed serves p.state (inlet (taken_left past.moves) (past.left ++ more) known' unread) fault.LeftRead f →
+    Ran serves (at_hand p) p.heard s' p.outside p.outside past.before (record { left = record { left = known'; faults = faults'; out = p.sides.left.out }; right = p.sides.right }) past.moves (Err f)
+left_lacks serves past p s' known' faults' f more w g heard needed le rose (unread, is, why) =
     let n = length (taken_left past.moves) in
-    let after : Side = record { left = told'; faults = faults'; out = p.sides.left.out } in
+    let after : Side = record { left = known'; faults = faults'; out = p.sides.left.out } in
     still serves past p s' p.outside (record { left = after; right = p.sides.right }) f (past.left ++ more) unread past.right p.talk.right.reader
     (subst (λ (x : ℕ). SideRead past.before.left after (taken_left past.moves) (n + x) (past.left ++ more) unread) (sym (unmet_left (want p.state) f w))
-    (side_lacks past.before.left p.sides.left (taken_left past.moves) (given_left past.moves) past.left more p.talk.left unread told' faults' p.sides.left.out g.left heard needed is))
+    (side_lacks past.before.left p.sides.left (taken_left past.moves) (given_left past.moves) past.left more p.talk.left unread known' faults' p.sides.left.out g.left heard needed is))
     (side_read past.before.right p.sides.right (taken_right past.moves) (given_right past.moves) past.right p.talk.right _ p.sides.right.faults p.sides.right.out g.right (omega arith))
     g.plain
     g.left.wrote
     g.right.wrote
-    (read_later past.before.left p.sides.left (taken_left past.moves) (given_left past.moves) past.left p.talk.left told' faults' p.sides.left.out g.left le (later_counts p.sides.left.out))
+    (read_later past.before.left p.sides.left (taken_left past.moves) (given_left past.moves) past.left p.talk.left known' faults' p.sides.left.out g.left le (later_counts p.sides.left.out))
     (stays_later past.before.right p.sides.right (taken_right past.moves) (given_right past.moves) past.right p.talk.right g.right)
     (room_still (at_hand p) p.outside f refl)
-    (how_left serves p.heard s' p.outside p.outside past.before (record { left = after; right = p.sides.right }) (ending past.moves (at_hand p) (past.left ++ more) unread told' past.right p.talk.right.reader p.sides.right.left) f w why
+    (how_left serves p.heard s' p.outside p.outside past.before (record { left = after; right = p.sides.right }) (ending past.moves (at_hand p) (past.left ++ more) unread known' past.right p.talk.right.reader p.sides.right.left) f w why
     (λ e. rose_from past.before.left.faults p.sides.left.faults faults' g.left.faults (rose e)))
 
-pub take_left_done : (serves : User → Type 0) (past : Past) (p : Hand) (s' : LocalState quel_sorts) (told' : Option (List ℕ)) (faults' : ℕ) (i' : Incoming) (heard' : ℕ) (result : Result Moved LoopFault) → want p.state ≡ take_left → Goes past p →
-    TakeDone serves p.state s' (taken_left past.moves) past.left p.sides.left.left told' fault.LeftRead i' result → p.sides.left.faults ≤ faults' → (result ≡ Err fault.LeftRead → Rose p.sides.left.faults faults') → OnOk result (faults' ≡ p.sides.left.faults) →
-    StepDone serves past p (at_left p s' told' faults' i' heard') result
-take_left_done serves past p s' told' faults' i' heard' (Ok Stepped) w g d le rose same = took_from_left serves past p s' told' faults' i' heard' d.took.0 d.more w g d.heard d.needed d.took.1 d.took.2 same
-take_left_done serves past p s' told' faults' i' heard' (Ok Blocked) w g d le rose same = absurd d.took
-take_left_done serves past p s' told' faults' i' heard' (Err f) w g d le rose same = left_lacks serves past p s' told' faults' f d.more w g d.heard d.needed le (λ e. rose (ap Err e)) d.took
+pub take_left_done : (serves : User → Type 0) (past : Past) (p : Hand) (s' : LocalState quel_sorts) (known' : Option (List ℕ)) (faults' : ℕ) (i' : Incoming) (heard' : ℕ) (result : Result Moved LoopFault) → want p.state ≡ take_left → Goes past p →
+    TakeDone serves p.state s' (taken_left past.moves) past.left p.sides.left.left known' fault.LeftRead i' result → p.sides.left.faults ≤ faults' → (result ≡ Err fault.LeftRead → Rose p.sides.left.faults faults') → OnOk result (faults' ≡ p.sides.left.faults) →
+    StepDone serves past p (at_left p s' known' faults' i' heard') result
+take_left_done serves past p s' known' faults' i' heard' (Ok Stepped) w g d le rose same = took_from_left serves past p s' known' faults' i' heard' d.took.0 d.more w g d.heard d.needed d.took.1 d.took.2 same
+take_left_done serves past p s' known' faults' i' heard' (Ok Blocked) w g d le rose same = absurd d.took
+take_left_done serves past p s' known' faults' i' heard' (Err f) w g d le rose same = left_lacks serves past p s' known' faults' f d.more w g d.heard d.needed le (λ e. rose (ap Err e)) d.took
 
 -- ---- to take from the right
 
@@ -259,12 +259,12 @@ take_right_done serves past p s' right' i' heard' (Ok Blocked) w g d le later wr
 take_right_done serves past p s' right' i' heard' (Err f) w g d le later written rose same counts = right_lacks serves past p s' right' f d.more w g d.heard d.needed le later written (λ e. rose (ap Err e)) d.took
 
 -- the same, where a link is at the right, whose faults of both kinds are counted together
-pub take_link_done : (serves : User → Type 0) (past : Past) (p : Hand) (s' : LocalState quel_sorts) (told' written' : Option (List ℕ)) (faults' stalls' : ℕ) (i' : Incoming) (heard' : ℕ) (result : Result Moved LoopFault) → want p.state ≡ take_right → Goes past p →
-    TakeDone serves p.state s' (taken_right past.moves) past.right p.sides.right.left told' fault.Right i' result → p.sides.right.faults ≡ p.sides.right.out.faults → p.sides.right.out.faults ≤ faults' → written' ≡ p.sides.right.out.written → stalls' ≡ p.sides.right.out.stalls →
+pub take_link_done : (serves : User → Type 0) (past : Past) (p : Hand) (s' : LocalState quel_sorts) (known' written' : Option (List ℕ)) (faults' stalls' : ℕ) (i' : Incoming) (heard' : ℕ) (result : Result Moved LoopFault) → want p.state ≡ take_right → Goes past p →
+    TakeDone serves p.state s' (taken_right past.moves) past.right p.sides.right.left known' fault.Right i' result → p.sides.right.faults ≡ p.sides.right.out.faults → p.sides.right.out.faults ≤ faults' → written' ≡ p.sides.right.out.written → stalls' ≡ p.sides.right.out.stalls →
     (result ≡ Err fault.Right → Rose p.sides.right.out.faults faults') → OnOk result (faults' ≡ p.sides.right.out.faults) →
-    StepDone serves past p (at_right p s' (record { left = told'; faults = faults'; out = record { written = written'; faults = faults'; stalls = stalls' } }) i' heard') result
-take_link_done serves past p s' told' written' faults' stalls' i' heard' result w g d both le written stalls rose same =
-    take_right_done serves past p s' (record { left = told'; faults = faults'; out = record { written = written'; faults = faults'; stalls = stalls' } }) i' heard' result w g d
+    StepDone serves past p (at_right p s' (record { left = known'; faults = faults'; out = record { written = written'; faults = faults'; stalls = stalls' } }) i' heard') result
+take_link_done serves past p s' known' written' faults' stalls' i' heard' result w g d both le written stalls rose same =
+    take_right_done serves past p s' (record { left = known'; faults = faults'; out = record { written = written'; faults = faults'; stalls = stalls' } }) i' heard' result w g d
     (omega (arith, both, le))
     (record { faults = le; stalls = omega (arith, stalls) })
     written

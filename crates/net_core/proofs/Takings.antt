@@ -34,13 +34,13 @@ fails serves s i failed fault.LeftWrite n = absurd n
 fails serves s i failed (fault.Work f) n = absurd n
 
 -- no frame came
-pub no_frame : (serves : User → Type 0) (s s' : LocalState quel_sorts) (taken : List Frame) (bytes : List ℕ) (told told' : Option (List ℕ)) (failed f : LoopFault) (i' : Incoming) →
-    Asked taken bytes told told' failed i' (Err f) → TakeDone serves s s' taken bytes told told' failed i' (Err f)
-no_frame serves s s' taken bytes told told' failed f i' a = record {
+pub no_frame : (serves : User → Type 0) (s s' : LocalState quel_sorts) (taken : List Frame) (bytes : List ℕ) (known known' : Option (List ℕ)) (failed f : LoopFault) (i' : Incoming) →
+    Asked taken bytes known known' failed i' (Err f) → TakeDone serves s s' taken bytes known known' failed i' (Err f)
+no_frame serves s s' taken bytes known known' failed f i' a = record {
   more = a.more;
   heard = a.heard;
   needed = a.needed;
-  took = (a.got.0, a.got.1.is, fails serves s (inlet taken (bytes ++ a.more) told' a.got.0) failed f a.got.1.why);
+  took = (a.got.0, a.got.1.is, fails serves s (inlet taken (bytes ++ a.more) known' a.got.0) failed f a.got.1.why);
 }
 
 -- the frame that came is unread again
@@ -48,34 +48,34 @@ unread : (taken : List Frame) (all : List ℕ) (frame : Frame) (i' : Incoming) �
 unread taken all frame i' h = sym (behind_both taken (frame ∷ []) i'.reader) ∙ h.is
 
 -- a frame came, and the stage took it or not
-pub with_frame : (serves : User → Type 0) (s s' : LocalState quel_sorts) (taken : List Frame) (bytes : List ℕ) (told told' : Option (List ℕ)) (failed : LoopFault) (i i' : Incoming) (frame : Frame) (result : Result Moved LoopFault) →
-    Holds taken bytes i → Asked taken bytes told told' failed i' (Ok frame) → TookFrame serves s frame s' i.place result → (failed ≡ fault.Right → IsPlain frame) → TakeDone serves s s' taken bytes told told' failed i' result
-with_frame serves s s' taken bytes told told' failed i i' frame (Ok Stepped) h a t plain = record { more = a.more; heard = a.heard; needed = a.needed; took = (frame, a.got, t, plain) }
-with_frame serves s s' taken bytes told told' failed i i' frame (Ok Blocked) h a t plain = absurd t
-with_frame serves s s' taken bytes told told' failed i i' frame (Err (fault.BadFrame at)) h a t plain = record {
+pub with_frame : (serves : User → Type 0) (s s' : LocalState quel_sorts) (taken : List Frame) (bytes : List ℕ) (known known' : Option (List ℕ)) (failed : LoopFault) (i i' : Incoming) (frame : Frame) (result : Result Moved LoopFault) →
+    Holds taken bytes i → Asked taken bytes known known' failed i' (Ok frame) → TookFrame serves s frame s' i.place result → (failed ≡ fault.Right → IsPlain frame) → TakeDone serves s s' taken bytes known known' failed i' result
+with_frame serves s s' taken bytes known known' failed i i' frame (Ok Stepped) h a t plain = record { more = a.more; heard = a.heard; needed = a.needed; took = (frame, a.got, t, plain) }
+with_frame serves s s' taken bytes known known' failed i i' frame (Ok Blocked) h a t plain = absurd t
+with_frame serves s s' taken bytes known known' failed i i' frame (Err (fault.BadFrame at)) h a t plain = record {
   more = a.more;
   heard = a.heard;
   needed = a.needed;
-  took = (behind_frames (frame ∷ []) i'.reader, unread taken _ frame i' a.got, (inr (frame, i'.reader.frames, refl, t.0 ∙ h.place, t.1), λ e. first_told (inlet taken (bytes ++ a.more) told' (behind_frames (frame ∷ []) i'.reader)) frame i'.reader.frames refl (plain e)));
+  took = (behind_frames (frame ∷ []) i'.reader, unread taken _ frame i' a.got, (inr (frame, i'.reader.frames, refl, t.0 ∙ h.place, t.1), λ e. first_told (inlet taken (bytes ++ a.more) known' (behind_frames (frame ∷ []) i'.reader)) frame i'.reader.frames refl (plain e)));
 }
-with_frame serves s s' taken bytes told told' failed i i' frame (Err fault.OutOfMemory) h a t plain = record {
+with_frame serves s s' taken bytes known known' failed i i' frame (Err fault.OutOfMemory) h a t plain = record {
   more = a.more;
   heard = a.heard;
   needed = a.needed;
   took = (behind_frames (frame ∷ []) i'.reader, unread taken _ frame i' a.got, tt);
 }
-with_frame serves s s' taken bytes told told' failed i i' frame (Err fault.LeftRead) h a t plain = absurd t
-with_frame serves s s' taken bytes told told' failed i i' frame (Err fault.LeftWrite) h a t plain = absurd t
-with_frame serves s s' taken bytes told told' failed i i' frame (Err fault.Right) h a t plain = absurd t
-with_frame serves s s' taken bytes told told' failed i i' frame (Err fault.EndedEarly) h a t plain = absurd t
-with_frame serves s s' taken bytes told told' failed i i' frame (Err fault.Spent) h a t plain = absurd t
-with_frame serves s s' taken bytes told told' failed i i' frame (Err (fault.Told status)) h a t plain = absurd t
-with_frame serves s s' taken bytes told told' failed i i' frame (Err (fault.Work f)) h a t plain = absurd t
+with_frame serves s s' taken bytes known known' failed i i' frame (Err fault.LeftRead) h a t plain = absurd t
+with_frame serves s s' taken bytes known known' failed i i' frame (Err fault.LeftWrite) h a t plain = absurd t
+with_frame serves s s' taken bytes known known' failed i i' frame (Err fault.Right) h a t plain = absurd t
+with_frame serves s s' taken bytes known known' failed i i' frame (Err fault.EndedEarly) h a t plain = absurd t
+with_frame serves s s' taken bytes known known' failed i i' frame (Err fault.Spent) h a t plain = absurd t
+with_frame serves s s' taken bytes known known' failed i i' frame (Err (fault.Told status)) h a t plain = absurd t
+with_frame serves s s' taken bytes known known' failed i i' frame (Err (fault.Work f)) h a t plain = absurd t
 
 -- a Fault frame came
-pub told_frame : (serves : User → Type 0) (s s' : LocalState quel_sorts) (taken : List Frame) (bytes : List ℕ) (told told' : Option (List ℕ)) (i' : Incoming) (frame : Frame) (status : ℕ) →
-    Asked taken bytes told told' fault.Right i' (Ok frame) → frame ≡ fault_frame status → Contains told_statuses status → TakeDone serves s s' taken bytes told told' fault.Right i' (Err (fault.Told status))
-told_frame serves s s' taken bytes told told' i' frame status a e n = record {
+pub told_frame : (serves : User → Type 0) (s s' : LocalState quel_sorts) (taken : List Frame) (bytes : List ℕ) (known known' : Option (List ℕ)) (i' : Incoming) (frame : Frame) (status : ℕ) →
+    Asked taken bytes known known' fault.Right i' (Ok frame) → frame ≡ fault_frame status → Contains told_statuses status → TakeDone serves s s' taken bytes known known' fault.Right i' (Err (fault.Told status))
+told_frame serves s s' taken bytes known known' i' frame status a e n = record {
   more = a.more;
   heard = a.heard;
   needed = a.needed;

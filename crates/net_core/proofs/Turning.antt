@@ -7,7 +7,7 @@ use Rattle.net_core.specs.declared.net.Net.{Net}
 use Rattle.net_core.specs.declared.fault.WorkFault.TheVariants as faults
 use Rattle.net_core.specs.Reads.{CountsHeard, ReadsOn}
 use Rattle.net_core.specs.Spares.{CountsOnlyBy, LeavesEnds, SparesBy, counts}
-use Rattle.net_core.specs.Told.{FailedStep, KeepsDatabase, KeepsScript, Later, Outside}
+use Rattle.net_core.specs.Known.{FailedStep, KeepsDatabase, KeepsScript, Later, Outside}
 use Rattle.net_core.specs.Whole.{AreNumbered, IsDisorderly, StopsAt, numbers_by, WroteFront, seen, state_at}
 use Rattle.network_meaning.specs.Calls.{KeepsAll, Moves, RunsTurns, Seen, Shape, stage_number}
 use Rattle.network_meaning.specs.Language.{Language}
@@ -105,7 +105,7 @@ turns_stopped {T} fault capacity turns i a b o o' after h h' h'' one one' serves
   is = cut_at turns i lt;
   before = seen b o';
   outside = o';
-  tells = refl;
+  knows = refl;
   runs = d.runs user x;
   part = part user (d.serve user x);
   wrote = wrote user (d.serve user x);
@@ -130,7 +130,7 @@ stops_behind L capacity xs ys numbers heard old mid after fault run s = record {
   is = ap (λ (l : List ℕ). xs ++ l) s.is ∙ sym (append_assoc xs s.made (s.failed ∷ s.later));
   before = s.before;
   outside = s.outside;
-  tells = s.tells;
+  knows = s.knows;
   runs = runs_on L capacity xs s.made old mid s.before run s.runs;
   part = s.part;
   wrote = s.wrote;

@@ -6,7 +6,7 @@ use Rattle.fault_io.specs.Files.{Files}
 use Rattle.frame_codec.specs.declared.frame.Frame.{Frame}
 use Rattle.net_core.specs.declared.fault.WorkFault.{WorkFault}
 use Rattle.net_core.specs.declared.fault.WorkFault.TheVariants as faults
-use Rattle.net_core.specs.Told.{Outside}
+use Rattle.net_core.specs.Known.{Outside}
 use Rattle.network_meaning.specs.Calls.{Taken}
 use Rattle.network_meaning.specs.Language.{Language}
 use Rattle.network_meaning.specs.Lawful.{FitWork}
@@ -18,7 +18,7 @@ use Rattle.quel_network.specs.Sorts.{quel_sorts}
 abbrev pub most_script : ℕ
 most_script = 16777216
 
--- this fault may come of this outside, where so many bytes of the script were read before: of a part of it whose count rose, of damage where no database is told, of a script that is too long, and want of memory. What is unlawful is said apart
+-- this fault may come of this outside, where so many bytes of the script were read before: of a part of it whose count rose, of damage where no database is known, of a script that is too long, and want of memory. What is unlawful is said apart
 abbrev pub MayCome : ℕ → Outside → Outside → WorkFault → Type 0
 MayCome heard before after faults.Source = Rose before.source_faults after.source_faults
 MayCome heard before after faults.Sink = Rose before.sink_faults after.sink_faults ⊎ Rose before.sink_stalls after.sink_stalls
@@ -38,6 +38,6 @@ IsCaused heard before after (Err fault) = MayCome heard before after fault
 abbrev pub MayNotTake : Language quel_sorts → LocalState quel_sorts → Frame → Type 0
 MayNotTake L s frame = (after : LocalState quel_sorts) → Taken L s frame after → ⊥
 
--- what is worked on isn't fit, where the database and the files are told
+-- what is worked on isn't fit, where the database and the files are known
 abbrev pub MayNotWork : Language quel_sorts → Mode quel_sorts → Outside → Type 0
 MayNotWork L mode before = (db : Db) (files : Files) → before.database ≡ Some db → before.files ≡ Some files → FitWork L mode db → ⊥

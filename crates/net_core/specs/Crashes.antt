@@ -1,11 +1,11 @@
 -- What a crash leaves of the database while stages work, and when its disk stands still.
 use Rattle.std.specs.Prelude.{◌≡◌, ◌<◌, ℕ, true, false, List, Some, length, take, get_or, Result, OnOk}
 use Rattle.std.specs.declared.option.Option.{Option}
-use Rattle.am_traits.specs.Crashes.{LeavesBut, Stands}
+use Rattle.base_trait.specs.Crashes.{LeavesBut, AllDenote}
 use Rattle.calculus.specs.Database.{Db}
-use Rattle.net_core.specs.Told.{Outside, told}
+use Rattle.net_core.specs.Known.{Outside, known}
 use Rattle.net_core.specs.Whole.{state_at}
-use Rattle.network_meaning.specs.Calls.{RunsTurns, Seen, Tells, stage_number}
+use Rattle.network_meaning.specs.Calls.{RunsTurns, Seen, Knows, stage_number}
 use Rattle.network_meaning.specs.Language.{Language}
 use Rattle.network_meaning.specs.LocalSteps.{Act, Mode, Works, Want.work, Room as NetworkRoom}
 use Rattle.network_meaning.specs.MessageNetwork.{StageNumber, StageNumber.first}
@@ -18,21 +18,21 @@ use Rattle.quel_network.specs.Sorts.{User, quel_sorts}
 abbrev pub MayLeave : Language quel_sorts → Mode quel_sorts → NetworkRoom quel_sorts → Option Db → Type 0
 MayLeave L mode room o = (act : Act quel_sorts) × (room' : NetworkRoom quel_sorts) × Works L mode room act room' × (o ≡ Some room'.db)
 
--- where the room is told, a crash leaves what it might leave before the work, or the database that the work leaves
+-- where the room is known, a crash leaves what it might leave before the work, or the database that the work leaves
 abbrev pub WorkLeaves : Language quel_sorts → Mode quel_sorts → Outside → Outside → (ℕ → Option Db → Type 0) → (ℕ → Option Db → Type 0) → Type 0
-WorkLeaves L mode before after left left' = (room : NetworkRoom quel_sorts) → Tells (told before) room → LeavesBut (MayLeave L mode room) before.clock after.clock left left'
+WorkLeaves L mode before after left left' = (room : NetworkRoom quel_sorts) → Knows (known before) room → LeavesBut (MayLeave L mode room) before.clock after.clock left left'
 
 -- a stage works, and its work leaves this database
 abbrev pub StepMayLeave : Language quel_sorts → LocalState quel_sorts → NetworkRoom quel_sorts → Option Db → Type 0
 StepMayLeave L s room o = (want s ≡ work) × MayLeave L s.mode room o
 
--- where the room is told, a crash leaves what it might leave before the step, or the database that the step's work leaves
+-- where the room is known, a crash leaves what it might leave before the step, or the database that the step's work leaves
 abbrev pub StepLeaves : Language quel_sorts → LocalState quel_sorts → Outside → Outside → (ℕ → Option Db → Type 0) → (ℕ → Option Db → Type 0) → Type 0
-StepLeaves L s before after left left' = (room : NetworkRoom quel_sorts) → Tells (told before) room → LeavesBut (StepMayLeave L s room) before.clock after.clock left left'
+StepLeaves L s before after left left' = (room : NetworkRoom quel_sorts) → Knows (known before) room → LeavesBut (StepMayLeave L s room) before.clock after.clock left left'
 
--- where each image of before stands for the database of before, each of after stands for that of after
+-- where each image of before denotes the database of before, each of after stands for that of after
 abbrev pub StaysDurable : Outside → Outside → (ℕ → Option Db → Type 0) → (ℕ → Option Db → Type 0) → Type 0
-StaysDurable before after left left' = (db db' : Db) → before.database ≡ Some db → after.database ≡ Some db' → Stands before.clock left db → Stands after.clock left' db'
+StaysDurable before after left left' = (db db' : Db) → before.database ≡ Some db → after.database ≡ Some db' → AllDenote before.clock left db → AllDenote after.clock left' db'
 
 -- the disk was neither read nor written
 abbrev pub IsQuiet : Outside → Outside → Type 0
@@ -42,7 +42,7 @@ IsQuiet before after = (after.clock ≡ before.clock) × (after.reads ≡ before
 abbrev pub QuietWithout : LocalState quel_sorts → Outside → Outside → Type 0
 QuietWithout s before after = (k : StageNumber) → has_turn k s.mode ≡ false → IsQuiet before after
 
--- nothing is kept of the disk: no schema is known but that of a database that is told
+-- nothing is kept of the disk: no schema is known but that of a database that is known
 abbrev pub IsForgotten : Option Db → Option Db → Type 0
 IsForgotten schema database = (s : Db) → schema ≡ Some s → database ≡ Some s
 
@@ -64,9 +64,9 @@ pub record TurnsMayLeave (L : Language quel_sorts) (capacity : ℕ) (turns : Lis
   pub before : Seen quel_sorts
   pub room : NetworkRoom quel_sorts
   pub runs : RunsTurns L capacity (take at turns) old before
-  pub told : Tells before.told room
+  pub known : Knows before.known room
   pub leaves : StepMayLeave L (state_at before.shape (stage_number (get_or turns at 0))) room o
 
--- where the room is told, a crash leaves what it might leave before these turns, or a database that their steps leave
+-- where the room is known, a crash leaves what it might leave before these turns, or a database that their steps leave
 abbrev pub TurnsLeave : Language quel_sorts → ℕ → List ℕ → Seen quel_sorts → ℕ → ℕ → (ℕ → Option Db → Type 0) → (ℕ → Option Db → Type 0) → Type 0
-TurnsLeave L capacity turns old before now left left' = (room : NetworkRoom quel_sorts) → Tells old.told room → LeavesBut (TurnsMayLeave L capacity turns old) before now left left'
+TurnsLeave L capacity turns old before now left left' = (room : NetworkRoom quel_sorts) → Knows old.known room → LeavesBut (TurnsMayLeave L capacity turns old) before now left left'

@@ -43,7 +43,7 @@ IsHeld s = (taken : List Frame) × (bytes : List ℕ) × Holds taken bytes s
 
 -- ---- why there is no frame
 
--- what came from one side: the frames that were taken, all bytes that were read, how they are read behind those frames, and what is left of the stream where it is told
+-- what came from one side: the frames that were taken, all bytes that were read, how they are read behind those frames, and what is left of the stream where it is known
 pub record Inlet : Type 0 where
   pub taken : List Frame
   pub bytes : List ℕ
@@ -111,11 +111,11 @@ GotPiece taken all left failed s' (Ok x) = Holds taken all s'
 GotPiece taken all left failed s' (Err f) = (unread : Reading) × Lacks (inlet taken all left unread) failed f
 
 -- a piece was read behind these bytes, or why not
-pub record PieceDone (taken : List Frame) (bytes : List ℕ) (told told' : Option (List ℕ)) (failed : LoopFault) (s' : Incoming) (result : Result (Unit {0}) LoopFault) : Type 0 where
+pub record PieceDone (taken : List Frame) (bytes : List ℕ) (known known' : Option (List ℕ)) (failed : LoopFault) (s' : Incoming) (result : Result (Unit {0}) LoopFault) : Type 0 where
   pub piece : List ℕ
-  pub heard : HasRead told piece told'
+  pub heard : HasRead known piece known'
   pub short : length piece ≤ most_piece
-  pub got : GotPiece taken (bytes ++ piece) told' failed s' result
+  pub got : GotPiece taken (bytes ++ piece) known' failed s' result
 
 -- the frame is the next one, or none came
 abbrev pub GotFrame : List Frame → List ℕ → Option (List ℕ) → LoopFault → Incoming → Result Frame LoopFault → Type 0
@@ -123,8 +123,8 @@ GotFrame taken all left failed s' (Ok frame) = Holds (taken ++ frame ∷ []) all
 GotFrame taken all left failed s' (Err f) = (unread : Reading) × Lacks (inlet taken all left unread) failed f
 
 -- one frame more was asked for: what was read for it behind these bytes, and what came
-pub record Asked (taken : List Frame) (bytes : List ℕ) (told told' : Option (List ℕ)) (failed : LoopFault) (s' : Incoming) (result : Result Frame LoopFault) : Type 0 where
+pub record Asked (taken : List Frame) (bytes : List ℕ) (known known' : Option (List ℕ)) (failed : LoopFault) (s' : Incoming) (result : Result Frame LoopFault) : Type 0 where
   pub more : List ℕ
-  pub heard : HasRead told more told'
+  pub heard : HasRead known more known'
   pub needed : IsNeeded (length taken) bytes → IsNeeded (length taken + 1) (bytes ++ more)
-  pub got : GotFrame taken (bytes ++ more) told' failed s' result
+  pub got : GotFrame taken (bytes ++ more) known' failed s' result

@@ -1,4 +1,4 @@
-pub mod Told
+pub mod Known
 pub mod Wants
 pub mod Faults
 pub mod Causes

@@ -9,7 +9,7 @@ use Rattle.frame_codec.specs.Reading.{Reading}
 use Rattle.net_core.specs.declared.steps.Moved.{Moved}
 use Rattle.net_core.specs.declared.steps.Moved.TheVariants.{Stepped, Blocked}
 use Rattle.net_core.specs.Reads.{CountsHeard}
-use Rattle.net_core.specs.Told.{KeepsDatabase, KeepsScript, Later, Outside}
+use Rattle.net_core.specs.Known.{KeepsDatabase, KeepsScript, Later, Outside}
 use Rattle.net_core.specs.Wants.{HasEnded}
 use Rattle.network_meaning.specs.LocalSteps.{Want.take_left, Want.take_right}
 use Rattle.network_meaning.specs.Network.{LocalState, want}
@@ -25,7 +25,7 @@ use Rattle.net_core.specs.Moves.{At, LocalRun, Move, StepsBy, first_places, give
 use Rattle.net_core.specs.Sides.{HasRead, IsNeeded, SameCounts, Side, SideLater, Sides, Wrote}
 use Rattle.net_core.specs.WholeLoop.{EndsKept, HowEnded, LeavesRoom, LoopCounts, LoopLeaves, LoopWithin, SideRead, WroteAll, unmet}
 
--- what a stage's process has at hand: where the stage is, the room and both sides as they are told, what is known of the schema, what it has read, and how many bytes of the script the stage has read
+-- what a stage's process has at hand: where the stage is, the room and both sides as they are known, what is known of the schema, what it has read, and how many bytes of the script the stage has read
 pub record Hand : Type 0 where
   pub state : LocalState quel_sorts
   pub outside : Outside
@@ -101,7 +101,7 @@ StepDone serves past p p' (Ok Stepped) = (move : Move) × (l : List ℕ) × (r :
 StepDone serves past p p' (Ok Blocked) = HasEnded p.state × (p' ≡ p)
 StepDone serves past p p' (Err f) = Ran serves (at_hand p) p.heard p'.state p.outside p'.outside past.before p'.sides past.moves (Err f)
 
--- the room behind a step of the stage with this number: no count fell, and none rose but that which a fault names; what is told of the script is told on, the source counts what was read, and no more was than may be; a database is told on unless the step failed; and the source and the sink are as they were unless it is the first stage
+-- the room behind a step of the stage with this number: no count fell, and none rose but that which a fault names; what is known of the script stays known, the source counts what was read, and no more was than may be; a database stays known unless the step failed; and the source and the sink are as they were unless it is the first stage
 pub record RoomKept (place heard heard' : ℕ) (old new : Outside) (result : Result Moved LoopFault) : Type 0 where
   pub later : Later old new
   pub script : KeepsScript heard heard' old new

@@ -5,7 +5,7 @@ use Rattle.calculus.specs.Database.{Db}
 use Rattle.frame_codec.specs.declared.frame.Frame.{Frame}
 use Rattle.frame_codec.specs.Frames.{frame_bytes}
 use Rattle.net_core.specs.Crashes.{HandsOver, QuietWithout}
-use Rattle.net_core.specs.Told.{Outside, told}
+use Rattle.net_core.specs.Known.{Outside, known}
 use Rattle.network_meaning.specs.Calls.{Given, Taken, WorkDone}
 use Rattle.network_meaning.specs.Language.{Language}
 use Rattle.network_meaning.specs.LocalSteps.{Want.take_left, Want.take_right, Want.give_left, Want.give_right, Want.work}
@@ -37,7 +37,7 @@ StepsBy L (took_right frame) a b = (want a.state ≡ take_right) × Taken L a.st
 StepsBy L (gave_left frame) a b = (want a.state ≡ give_left) × Given a.state frame b.state × SameRoom a b
 StepsBy L (gave_right frame) a b = (want a.state ≡ give_right) × Given a.state frame b.state × SameRoom a b
 StepsBy L worked a b =
-    (want a.state ≡ work) × WorkDone L a.state b.state (told a.outside) (told b.outside) × QuietWithout a.state a.outside b.outside × HandsOver a.state b.state b.schema b.outside.database
+    (want a.state ≡ work) × WorkDone L a.state b.state (known a.outside) (known b.outside) × QuietWithout a.state a.outside b.outside × HandsOver a.state b.state b.schema b.outside.database
 
 -- the steps lead from here to there, one after the other
 abbrev pub LocalRun : Language quel_sorts → List Move → At → At → Type 0

@@ -5,7 +5,7 @@ use Rattle.std.specs.declared.option.Option.{Option}
 use Rattle.net_core.specs.Causes.{most_script}
 use Rattle.net_core.specs.declared.fault.WorkFault.{WorkFault}
 use Rattle.net_core.specs.declared.fault.WorkFault.TheVariants as faults
-use Rattle.net_core.specs.Told.{Outside}
+use Rattle.net_core.specs.Known.{Outside}
 use Rattle.quel_meaning.specs.Lines.{is_no_newline}
 
 -- what was read, and counted, is a front of the first line: bytes of which none is a newline, and behind them at most one byte
@@ -16,11 +16,11 @@ ReadsOfLine heard heard' script left = (front : List ℕ) × (last : List ℕ) �
 abbrev pub ReadsNoLine : List ℕ → Option (List ℕ) → Type 0
 ReadsNoLine script left = (front : List ℕ) × (rest : List ℕ) × (left ≡ Some rest) × (script ≡ front ++ rest) × (list_all is_no_newline front ≡ true)
 
--- the source has given as many bytes more as were read, whether the script is told or not, or its count stands at its last value
+-- the source has given as many bytes more as were read, whether the script is known or not, or its count stands at its last value
 abbrev pub CountsHeard : ℕ → ℕ → ℕ → ℕ → Type 0
 CountsHeard heard heard' given given' = (n : ℕ) × (heard' ≡ heard + n) × ((given' ≡ given + n) ⊎ (2 ^ 64 - 1 ≤ given'))
 
--- what one step reads: of a script that is told a front of its first line, and no whole line where the source failed; and the source counts what it gives
+-- what one step reads: of a script that is known a front of its first line, and no whole line where the source failed; and the source counts what it gives
 pub record ReadsOn (heard heard' : ℕ) (before after : Outside) (failed : Type 0) : Type 0 where
   pub line : (script : List ℕ) → before.script ≡ Some script → ReadsOfLine heard heard' script after.script
   pub broken : failed → (script : List ℕ) → before.script ≡ Some script → ReadsNoLine script after.script

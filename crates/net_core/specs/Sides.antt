@@ -3,18 +3,18 @@ use Rattle.std.specs.Prelude.{◌≡◌, ◌⊎◌, ℕ, ◌<◌, ◌≤◌, Lis
 use Rattle.std.specs.declared.option.Option.{Option}
 use Rattle.std.specs.Io.KnownBytes.{Appends, Consumes}
 use Rattle.fault_io.specs.Causes.{Rose}
-use Rattle.fault_io.specs.Told.{GrewBy, IsFront}
+use Rattle.fault_io.specs.Known.{GrewBy, IsFront}
 use Rattle.frame_codec.specs.Reading.{read}
 
--- ---- what is told
+-- ---- what is known
 
--- where bytes are written to: those that were, where they are told; how often writing failed, and how often it took nothing
+-- where bytes are written to: those that were, where they are known; how often writing failed, and how often it took nothing
 pub record Outlet : Type 0 where
   pub written : Option (List ℕ)
   pub faults : ℕ
   pub stalls : ℕ
 
--- one side: the bytes that are left to read, where they are told; how often reading failed; and where bytes are written to
+-- one side: the bytes that are left to read, where they are known; how often reading failed; and where bytes are written to
 pub record Side : Type 0 where
   pub left : Option (List ℕ)
   pub faults : ℕ
@@ -59,7 +59,7 @@ Faltered before after = Rose before.faults after.faults ⊎ Rose before.stalls a
 
 -- ---- what was read and written
 
--- what is left, where it is told, was these bytes, and then what is left now
+-- what is left, where it is known, was these bytes, and then what is left now
 abbrev pub HasRead : Option (List ℕ) → List ℕ → Option (List ℕ) → Type 0
 HasRead before bytes after = Consumes before after bytes
 

@@ -2,7 +2,7 @@
 use Rattle.std.specs.Prelude.{◌≡◌, ℕ, List, Option, Result, Ok, Err, ⊤}
 use Rattle.net_core.specs.declared.fault.WorkFault.{WorkFault}
 use Rattle.net_core.specs.declared.fault.WorkFault.TheVariants as faults
-use Rattle.net_core.specs.Told.{Outside}
+use Rattle.net_core.specs.Known.{Outside}
 
 -- how often the base, the shelf, the source and the sink have failed, and how often the sink took nothing
 pub record Counts : Type 0 where

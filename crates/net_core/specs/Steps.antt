@@ -7,10 +7,10 @@ use Rattle.net_core.specs.declared.fault.WorkFault.TheVariants as faults
 use Rattle.net_core.specs.declared.steps.Moved.{Moved}
 use Rattle.net_core.specs.Reads.{ReadsOn, Within}
 use Rattle.net_core.specs.Spares.{CountsOnly, LeavesEnds, Spares}
-use Rattle.net_core.specs.Told.{FailedStep, KeepsDatabase, Later, Outside, told}
+use Rattle.net_core.specs.Known.{FailedStep, KeepsDatabase, Later, Outside, known}
 use Rattle.net_core.specs.Wants.{was_blocked}
 use Rattle.net_core.specs.Whole.{MayNotStep, seen, state_at}
-use Rattle.network_meaning.specs.Calls.{FitWant, Moves, Shape, Tells, Told, Wrote, join}
+use Rattle.network_meaning.specs.Calls.{FitWant, Moves, Shape, Knows, Known, Wrote, join}
 use Rattle.network_meaning.specs.Language.{Language}
 use Rattle.network_meaning.specs.Lawful.{comes}
 use Rattle.network_meaning.specs.LocalSteps.{Act, Mode, Works, Want.work, Room as NetworkRoom}
@@ -42,19 +42,19 @@ abbrev pub PipedStepsBy : (Mode quel_sorts → NetworkRoom quel_sorts → Act qu
 PipedStepsBy W L s s' true = s' ≡ s
 PipedStepsBy W L s s' false = StepsBy W L s (want s.stage) s'
 
--- a step was one of the network in this room, and the room is told again, as the step leaves it
-pub record PipedIn (L : Language quel_sorts) (blocked : Bool) (old new : Piped) (room : NetworkRoom quel_sorts) (before after : Told quel_sorts) : Type 0 where
+-- a step was one of the network in this room, and the room is again known, as the step leaves it
+pub record PipedIn (L : Language quel_sorts) (blocked : Bool) (old new : Piped) (room : NetworkRoom quel_sorts) (before after : Known quel_sorts) : Type 0 where
   pub room' : NetworkRoom quel_sorts
-  pub told : Tells after room'
+  pub known : Knows after room'
   pub wrote : Wrote before after room room'
   pub step : PipedStepsBy (Works L) L (in_room old room) (in_room new room') blocked
 
--- a stage was blocked or not. Whatever the room is, it took, gave, or did work of its shape; where the database and the files are told, what it worked on is fit; and where the room is told, this was a step of the network there
-pub record PipedMoves (L : Language quel_sorts) (left right : ℕ) (blocked : Bool) (old new : Piped) (before after : Told quel_sorts) : Type 0 where
+-- a stage was blocked or not. Whatever the room is, it took, gave, or did work of its shape; where the database and the files are known, what it worked on is fit; and where the room is known, this was a step of the network there
+pub record PipedMoves (L : Language quel_sorts) (left right : ℕ) (blocked : Bool) (old new : Piped) (before after : Known quel_sorts) : Type 0 where
   pub is : (room : NetworkRoom quel_sorts) → is_blocked left right (in_room old room) (want old.stage) ≡ blocked
   pub shape : (room : NetworkRoom quel_sorts) → PipedStepsBy (WorksInShape L) L (in_room old room) (in_room new room) blocked
   pub fit : (room : NetworkRoom quel_sorts) → before.db ≡ Some room.db → before.shelf ≡ Some room.shelf → FitUnlessBlocked L (in_room old room) blocked
-  pub exact : (room : NetworkRoom quel_sorts) → Tells before room → PipedIn L blocked old new room before after
+  pub exact : (room : NetworkRoom quel_sorts) → Knows before room → PipedIn L blocked old new room before after
 
 -- a frame comes to a stage that it may not take, or it is to work on what isn't fit
 abbrev pub PipedMayNot : Language quel_sorts → Piped → Outside → Type 0
@@ -65,7 +65,7 @@ PipedMayNot L s o =
 -- what a stage between its pipes has done, or why it failed
 pub record PipedDone (left right : ℕ) (old new : Piped) (before after : Outside) (heard heard' place place' : ℕ) (serves serves' : User → Type 0) (result : Result Moved WorkFault) : Type 0 where
   pub blocked : (r : NetworkRoom quel_sorts) → IfOk result (λ moved. is_blocked left right (in_room old r) (want old.stage) ≡ was_blocked moved)
-  pub steps : (user : User) → serves user → IfOk result (λ moved. PipedMoves (quel user) left right (was_blocked moved) old new (told before) (told after))
+  pub steps : (user : User) → serves user → IfOk result (λ moved. PipedMoves (quel user) left right (was_blocked moved) old new (known before) (known after))
   pub failed : (user : User) → serves user → OnErr result (FailedStep (quel user) old.stage before after)
   pub unlawful : (user : User) → serves user → IsErrOf result faults.Unlawful → PipedMayNot (quel user) old before
   pub untouched : (want old.stage ≡ work → ⊥) → after ≡ before

@@ -3,7 +3,7 @@ use Rattle.std.specs.Prelude.{◌≡◌, ◌⊎◌, ℕ, ◌+◌, List, [], ◌�
 use Rattle.std.specs.declared.option.Option.{Option}
 use Rattle.std.specs.Io.KnownBytes.{Appends}
 use Rattle.calculus.specs.Database.{Db}
-use Rattle.fault_io.specs.Told.{GrewBy, IsFront}
+use Rattle.fault_io.specs.Known.{GrewBy, IsFront}
 use Rattle.frame_codec.specs.declared.frame.Frame.{Frame}
 use Rattle.frame_codec.specs.Frames.{frame_bytes}
 use Rattle.frame_codec.specs.Reading.{Reading, behind_frames, read}
@@ -13,7 +13,7 @@ use Rattle.net_core.specs.declared.fault.WorkFault.TheVariants as work
 use Rattle.net_core.specs.declared.steps.Moved.{Moved}
 use Rattle.net_core.specs.declared.steps.Moved.TheVariants.{Stepped, Blocked}
 use Rattle.net_core.specs.Spares.{SparesBy}
-use Rattle.net_core.specs.Told.{FailedWork, Outside, told}
+use Rattle.net_core.specs.Known.{FailedWork, Outside, known}
 use Rattle.network_meaning.specs.Calls.{Given, Taken, WorkDone}
 use Rattle.network_meaning.specs.Network.{LocalState}
 use Rattle.quel_network.specs.Quel.{quel}
@@ -52,11 +52,11 @@ Took serves s s' taken all left failed i' (Ok Blocked) = ⊥
 Took serves s s' taken all left failed i' (Err f) = (unread : Reading) × (behind_frames taken unread ≡ read 0 all) × TakeFailed serves s (inlet taken all left unread) failed f
 
 -- a stage was to take a frame: what was read for it behind these bytes, and what it came to
-pub record TakeDone (serves : User → Type 0) (s s' : LocalState quel_sorts) (taken : List Frame) (bytes : List ℕ) (told told' : Option (List ℕ)) (failed : LoopFault) (i' : Incoming) (result : Result Moved LoopFault) : Type 0 where
+pub record TakeDone (serves : User → Type 0) (s s' : LocalState quel_sorts) (taken : List Frame) (bytes : List ℕ) (known known' : Option (List ℕ)) (failed : LoopFault) (i' : Incoming) (result : Result Moved LoopFault) : Type 0 where
   pub more : List ℕ
-  pub heard : HasRead told more told'
+  pub heard : HasRead known more known'
   pub needed : IsNeeded (length taken) bytes → IsNeeded (length taken + 1) (bytes ++ more)
-  pub took : Took serves s s' taken (bytes ++ more) told' failed i' result
+  pub took : Took serves s s' taken (bytes ++ more) known' failed i' result
 
 -- ---- to give
 
@@ -78,7 +78,7 @@ Gave s s' o o' failed (Err f) = ((f ≡ fault.OutOfMemory) × (o' ≡ o)) ⊎ ((
 
 -- a stage has worked, and this is known of the schema then; or its work came to no end; or what it is to work on isn't fit, and that place is answered
 abbrev pub Worked : (User → Type 0) → ℕ → LocalState quel_sorts → LocalState quel_sorts → Outside → Outside → Option Db → ℕ → Result Moved LoopFault → Type 0
-Worked serves heard s s' o o' schema last (Ok Stepped) = ((user : User) → serves user → WorkDone (quel user) s s' (told o) (told o')) × QuietWithout s o o' × HandsOver s s' schema o'.database
+Worked serves heard s s' o o' schema last (Ok Stepped) = ((user : User) → serves user → WorkDone (quel user) s s' (known o) (known o')) × QuietWithout s o o' × HandsOver s s' schema o'.database
 Worked serves heard s s' o o' schema last (Err (fault.Work f)) = (f ≡ work.Unlawful → ⊥) × MayCome heard o o' f × ((user : User) → serves user → FailedWork (quel user) s.mode o o') × SparesBy o o' f
 Worked serves heard s s' o o' schema last (Err (fault.BadFrame at)) = (at ≡ last) × ((user : User) → serves user → MayNotWork (quel user) s.mode o) × ((user : User) → serves user → FailedWork (quel user) s.mode o o') × (o'.database ≡ o.database)
 Worked serves heard s s' o o' schema last _ = ⊥

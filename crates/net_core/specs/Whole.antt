@@ -8,9 +8,9 @@ use Rattle.net_core.specs.declared.fault.WorkFault.TheVariants as faults
 use Rattle.net_core.specs.declared.net.Net.{Net}
 use Rattle.net_core.specs.Reads.{ReadsOn}
 use Rattle.net_core.specs.Spares.{CountsOnlyBy, IsNoFaultOfEnds, SparesBy, ends}
-use Rattle.net_core.specs.Told.{FailedStep, Outside, told}
+use Rattle.net_core.specs.Known.{FailedStep, Outside, known}
 use Rattle.net_core.specs.Wants.{HasEnded}
-use Rattle.network_meaning.specs.Calls.{join, RunsTurns, Seen, Shape, Tells, stage_number}
+use Rattle.network_meaning.specs.Calls.{join, RunsTurns, Seen, Shape, Knows, stage_number}
 use Rattle.network_meaning.specs.Failing.{Begins}
 use Rattle.network_meaning.specs.Language.{Language}
 use Rattle.network_meaning.specs.Lawful.{comes}
@@ -33,7 +33,7 @@ HaveEnded s = HasEnded s.one × HasEnded s.two × HasEnded s.three × HasEnded s
 
 -- the stages and the pipes, and what is known of the room
 abbrev pub seen : Shape quel_sorts → Outside → Seen quel_sorts
-seen s o = record { shape = s; told = told o }
+seen s o = record { shape = s; known = known o }
 
 -- all four stages serve this user
 pub record AllServe {A1 A2 A3 A4 : Type 0} (one : A1 → User → Type 0) (two : A2 → User → Type 0) (three : A3 → User → Type 0) (four : A4 → User → Type 0) (n : Net A1 A2 A3 A4) (user : User) : Type 0 where
@@ -64,13 +64,13 @@ state_at s second = s.two
 state_at s third = s.three
 state_at s fourth = s.four
 
--- from each orderly network whose room is told, what is written, behind what its room has, is a front of the bytes in all
+-- from each orderly network whose room is known, what is written, behind what its room has, is a front of the bytes in all
 abbrev pub WroteFront : Language quel_sorts → Seen quel_sorts → Outside → Type 0
-WroteFront L old after = (r : NetworkRoom quel_sorts) → Tells old.told r → Orderly L (join old.shape r) → (bytes : List ℕ) × Appends old.told.out after.output bytes × Begins (r.out ++ bytes) (bytes_in_all L (join old.shape r))
+WroteFront L old after = (r : NetworkRoom quel_sorts) → Knows old.known r → Orderly L (join old.shape r) → (bytes : List ℕ) × Appends old.known.out after.output bytes × Begins (r.out ++ bytes) (bytes_in_all L (join old.shape r))
 
--- no network of this shape is orderly in a room whose database and files are those that are told
+-- no network of this shape is orderly in a room whose database and files are those that are known
 abbrev pub IsDisorderly : Language quel_sorts → Seen quel_sorts → Type 0
-IsDisorderly L s = (r : NetworkRoom quel_sorts) → Tells s.told r → Orderly L (join s.shape r) → ⊥
+IsDisorderly L s = (r : NetworkRoom quel_sorts) → Knows s.known r → Orderly L (join s.shape r) → ⊥
 
 -- a frame comes to stage k that it may not take, or it is to work on what isn't fit
 abbrev pub MayNotStep : Language quel_sorts → StageNumber → Shape quel_sorts → Outside → Type 0
@@ -86,7 +86,7 @@ pub record StopsAt (L : Language quel_sorts) (capacity : ℕ) (turns numbers : L
   pub is : turns ≡ made ++ failed ∷ later
   pub before : Seen quel_sorts
   pub outside : Outside
-  pub tells : before.told ≡ told outside
+  pub knows : before.known ≡ known outside
   pub runs : RunsTurns L capacity made old before
   pub part : FailedStep L (state_at before.shape (stage_number failed)) outside after
   pub wrote : WroteFront L before after

@@ -1,7 +1,7 @@
 -- What the process of a stage has done, and how it ended.
 use Rattle.std.specs.Prelude.{◌≡◌, ◌⊎◌, ℕ, ◌+◌, ◌-◌, ◌^◌, ◌≤◌, List, ◌++◌, length, All, Option, Some, Result, Ok, Err, OnOk, ⊤}
 use Rattle.std.specs.Io.KnownBytes.{Appends}
-use Rattle.am_traits.specs.Crashes.{LeavesBut}
+use Rattle.base_trait.specs.Crashes.{LeavesBut}
 use Rattle.calculus.specs.Database.{Db}
 use Rattle.fault_io.specs.Causes.{Rose}
 use Rattle.fault_io.specs.Files.{Files}
@@ -13,9 +13,9 @@ use Rattle.net_core.specs.Crashes.{StepMayLeave}
 use Rattle.net_core.specs.declared.fault.WorkFault.TheVariants as work_fault
 use Rattle.net_core.specs.Reads.{EndsWithin}
 use Rattle.net_core.specs.Spares.{CountsOnlyBy, IsNoFaultOfEnds, SparesBy, counts, ends}
-use Rattle.net_core.specs.Told.{FailedWork, Outside, told}
+use Rattle.net_core.specs.Known.{FailedWork, Outside, known}
 use Rattle.net_core.specs.Wants.{HasEnded}
-use Rattle.network_meaning.specs.Calls.{Tells}
+use Rattle.network_meaning.specs.Calls.{Knows}
 use Rattle.network_meaning.specs.Language.{Language}
 use Rattle.network_meaning.specs.Lawful.{FitWork}
 use Rattle.network_meaning.specs.LocalSteps.{Want, Want.take_left, Want.take_right, Want.work, Room as NetworkRoom}
@@ -46,7 +46,7 @@ IsWanted e P = ((want e.end.state ≡ take_left) × P e.left) ⊎ ((want e.end.s
 abbrev pub LeftPart : Language quel_sorts → At → Outside → Type 0
 LeftPart L end after = FailedWork L end.state.mode end.outside after
 
--- what is to be worked on isn't fit, where the database and the files are told, and the last frame that was taken begins at this byte; a part of the work was left, as of any that failed
+-- what is to be worked on isn't fit, where the database and the files are known, and the last frame that was taken begins at this byte; a part of the work was left, as of any that failed
 abbrev pub IsUnfit : (User → Type 0) → Ending → Outside → ℕ → Type 0
 IsUnfit serves e new at =
     (want e.end.state ≡ work) × (at ≡ last_place e.moves)
@@ -118,12 +118,12 @@ pub record MovesMayLeave (L : Language quel_sorts) (moves : List Move) (start : 
   pub before : At
   pub room : NetworkRoom quel_sorts
   pub runs : LocalRun L first start before
-  pub told : Tells (told before.outside) room
+  pub known : Knows (known before.outside) room
   pub leaves : StepMayLeave L before.state room o
 
--- where the room is told, a crash leaves what it might leave before these steps, or a database that their work leaves, or that which follows them
+-- where the room is known, a crash leaves what it might leave before these steps, or a database that their work leaves, or that which follows them
 abbrev pub LoopLeaves : Language quel_sorts → List Move → At → ℕ → (ℕ → Option Db → Type 0) → (ℕ → Option Db → Type 0) → Type 0
-LoopLeaves L moves start now left left' = (room : NetworkRoom quel_sorts) → Tells (told start.outside) room → LeavesBut (MovesMayLeave L moves start) start.outside.clock now left left'
+LoopLeaves L moves start now left left' = (room : NetworkRoom quel_sorts) → Knows (known start.outside) room → LeavesBut (MovesMayLeave L moves start) start.outside.clock now left left'
 
 -- ---- what was read
 

@@ -10,7 +10,7 @@ ghost use Rattle.net_core.specs.Pipes.{GaveTo, TookFrom, WasEmpty};
 ghost use Rattle.net_core.specs.Reads.{ReadsOn, Within};
 ghost use Rattle.net_core.specs.Spares.{CountsOnly, LeavesEnds, Spares};
 ghost use Rattle.net_core.specs.Steps.{PipedDone};
-ghost use Rattle.net_core.specs.Told.{FailedWork, KeepsDatabase, Later, outside, told};
+ghost use Rattle.net_core.specs.Known.{FailedWork, KeepsDatabase, Later, outside, known};
 ghost use Rattle.net_core.specs.Wants.{IsToGive, IsToTake, IsToWork};
 ghost use Rattle.network_meaning.specs.Calls.{WorkDone};
 ghost use Rattle.quel_network.specs.Quel.{quel};
@@ -20,7 +20,7 @@ use crate::fault::WorkFault;
 use crate::room::Room;
 use crate::stage::{Stage, Want};
 use crate::steps::Moved;
-use am_traits::Base;
+use base_trait::Base;
 use fault_io::{Shelf, Sink, Source};
 use frame_codec::Frame;
 use std::alloc::Global;
@@ -82,8 +82,8 @@ fn work_on<A: Stage, B: Base, H: Shelf, S: Source, K: Sink>(
     requires { IsToWork (A.state stage.old) }
     ensures stepped { IfOk result (λ moved. moved ≡ Stepped) }
     ensures works { (user : User) → A.serves stage.old user → OnOk result (WorkDone (quel user) (A.state stage.old) (A.state stage.new)
-        (told (outside B.database B.faults B.clock B.reads H.files H.faults S.left S.given S.faults K.written K.faults K.stalls room.old))
-        (told (outside B.database B.faults B.clock B.reads H.files H.faults S.left S.given S.faults K.written K.faults K.stalls room.new))) }
+        (known (outside B.database B.faults B.clock B.reads H.files H.faults S.left S.given S.faults K.written K.faults K.stalls room.old))
+        (known (outside B.database B.faults B.clock B.reads H.files H.faults S.left S.given S.faults K.written K.faults K.stalls room.new))) }
     ensures failed { (user : User) → A.serves stage.old user → OnErr result (FailedWork (quel user) (A.state stage.old).mode
         (outside B.database B.faults B.clock B.reads H.files H.faults S.left S.given S.faults K.written K.faults K.stalls room.old)
         (outside B.database B.faults B.clock B.reads H.files H.faults S.left S.given S.faults K.written K.faults K.stalls room.new)) }

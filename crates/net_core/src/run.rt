@@ -4,7 +4,7 @@ ghost use Rattle.std.specs.Prelude.{◌≡◌, IfErr, OnOk};
 ghost use Rattle.net_core.specs.Crashes.{StaysDurable};
 ghost use Rattle.net_core.specs.LoopFaults.{status_of};
 ghost use Rattle.net_core.specs.Reads.{CountsHeard};
-ghost use Rattle.net_core.specs.Told.{KeepsDatabase, KeepsScript, Later, outside};
+ghost use Rattle.net_core.specs.Known.{KeepsDatabase, KeepsScript, Later, outside};
 ghost use Rattle.quel_network.specs.Sorts.{User};
 ghost use Rattle.net_core.specs.Sides.{sides};
 ghost use Rattle.net_core.specs.LoopSteps.{RanWhole};
@@ -15,7 +15,7 @@ use crate::loop_fault::LoopFault;
 use crate::stepping::{Talk, step};
 use crate::telling::tell;
 use crate::{Moved, Room, Stage};
-use am_traits::Base;
+use base_trait::Base;
 use fault_io::{Link, Shelf, Sink, Source};
 use std::alloc::Global;
 

@@ -8,14 +8,14 @@ ghost use Rattle.net_core.specs.Causes.{IsCaused, MayNotTake, MayNotWork};
 ghost use Rattle.net_core.specs.Crashes.{HandsOver, QuietWithout, StaysDurable, WorkLeaves};
 ghost use Rattle.net_core.specs.Reads.{ReadsOn, Within};
 ghost use Rattle.net_core.specs.Spares.{CountsOnly, LeavesEnds, Spares};
-ghost use Rattle.net_core.specs.Told.{FailedWork, KeepsDatabase, Later, outside, told};
+ghost use Rattle.net_core.specs.Known.{FailedWork, KeepsDatabase, Later, outside, known};
 ghost use Rattle.net_core.specs.Wants.{IsToGive, IsToTake, IsToWork, wish};
 ghost use Rattle.quel_network.specs.Quel.{quel};
 ghost use Rattle.quel_network.specs.Sorts.{User, quel_sorts};
 
 use crate::fault::{TakeFault, WorkFault};
 use crate::room::Room;
-use am_traits::Base;
+use base_trait::Base;
 use fault_io::{Shelf, Sink, Source};
 use frame_codec::Frame;
 use memory::OutOfMemory;
@@ -86,10 +86,10 @@ pub trait Stage {
         ensures heard { heard self.new ≡ heard self.old };
 
     /// Works on the room. Whatever the room tells, what it goes to and what it gives has the shape of such
-    /// a piece of work. Where the room is told, this is the network's work, and what it leaves is what that
+    /// a piece of work. Where the room is known, this is the network's work, and what it leaves is what that
     /// leaves; after an error a front of what this work writes was written, and the database is that of
-    /// before or of after. What was written needn't be known. Of files that are told no one differs after
-    /// an error but that which such work stores, also where the database isn't told. A tree or a change
+    /// before or of after. What was written needn't be known. Of files that are known no one differs after
+    /// an error but that which such work stores, also where the database isn't known. A tree or a change
     /// that isn't fit for the present database is refused as unlawful.
     fn work<B: Base, H: Shelf, S: Source, K: Sink>(
         &mut self,
@@ -98,8 +98,8 @@ pub trait Stage {
     ) -> Result<(), WorkFault>
         requires { IsToWork (state self.old) }
         ensures works { (user : User) → serves self.old user → OnOk result (WorkDone (quel user) (state self.old) (state self.new)
-            (told (outside B.database B.faults B.clock B.reads H.files H.faults S.left S.given S.faults K.written K.faults K.stalls room.old))
-            (told (outside B.database B.faults B.clock B.reads H.files H.faults S.left S.given S.faults K.written K.faults K.stalls room.new))) }
+            (known (outside B.database B.faults B.clock B.reads H.files H.faults S.left S.given S.faults K.written K.faults K.stalls room.old))
+            (known (outside B.database B.faults B.clock B.reads H.files H.faults S.left S.given S.faults K.written K.faults K.stalls room.new))) }
         ensures failed { (user : User) → serves self.old user → OnErr result (FailedWork (quel user) (state self.old).mode
             (outside B.database B.faults B.clock B.reads H.files H.faults S.left S.given S.faults K.written K.faults K.stalls room.old)
             (outside B.database B.faults B.clock B.reads H.files H.faults S.left S.given S.faults K.written K.faults K.stalls room.new)) }

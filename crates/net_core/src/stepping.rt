@@ -2,7 +2,7 @@
 
 ghost use Rattle.std.specs.Prelude.{◌≡◌, length};
 ghost use Rattle.net_core.specs.Crashes.{StepCrash};
-ghost use Rattle.net_core.specs.Told.{outside};
+ghost use Rattle.net_core.specs.Known.{outside};
 ghost use Rattle.quel_network.specs.Sorts.{User};
 ghost use Rattle.net_core.specs.Incoming.{IsHeld};
 ghost use Rattle.net_core.specs.Sides.{sides};
@@ -14,7 +14,7 @@ use crate::loop_fault::LoopFault;
 use crate::taking::{take_left, take_right};
 use crate::working::work_on;
 use crate::{Moved, Room, Stage, Want};
-use am_traits::Base;
+use base_trait::Base;
 use fault_io::{Link, Shelf, Sink, Source};
 use std::alloc::Global;
 

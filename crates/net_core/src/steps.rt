@@ -11,7 +11,7 @@ ghost use Rattle.net_core.specs.Crashes.{HandsOver, QuietWithout, StaysDurable, 
 ghost use Rattle.net_core.specs.Reads.{ReadsOn, Within};
 ghost use Rattle.net_core.specs.Spares.{CountsOnly, LeavesEnds, Spares};
 ghost use Rattle.net_core.specs.Steps.{StepDone};
-ghost use Rattle.net_core.specs.Told.{FailedStep, KeepsDatabase, Later, outside};
+ghost use Rattle.net_core.specs.Known.{FailedStep, KeepsDatabase, Later, outside};
 ghost use Rattle.net_core.specs.Wants.{was_blocked};
 ghost use Rattle.net_core.specs.Whole.{AllServe, AreNumbered, IsDisorderly, MayNotStep, WroteFront, heard_by, seen, shape, state_at};
 ghost use Rattle.quel_network.specs.Quel.{quel};
@@ -22,7 +22,7 @@ use crate::moving::step_stage;
 use crate::net::Net;
 use crate::room::Room;
 use crate::stage::Stage;
-use am_traits::Base;
+use base_trait::Base;
 use fault_io::{Shelf, Sink, Source};
 use std::alloc::Global;
 use std::collections::VecDeque;
@@ -40,7 +40,7 @@ pub enum Moved {
 /// Stage k does what it wants next: it takes a frame of a pipe, gives one to a pipe, or works on the room;
 /// or it is blocked, and nothing changes.
 ///
-/// Whatever the room tells, a piece of work has its shape. Where the room is told, it is the network's,
+/// Whatever the room tells, a piece of work has its shape. Where the room is known, it is the network's,
 /// an orderly network stays orderly, and the bytes in all, those that were written, those of what is on
 /// its way and those of the rest of the session, stay the same; after an error a front of them was
 /// written. From an orderly network nothing unlawful comes. After an error the network isn't used again.
@@ -103,7 +103,7 @@ pub fn net_step<A1: Stage, A2: Stage, A3: Stage, A4: Stage, B: Base, H: Shelf, S
         (seen (shape A1.state A2.state A3.state A4.state net.new) (outside B.database B.faults B.clock B.reads H.files H.faults S.left S.given S.faults K.written K.faults K.stalls room.new))) }
     ensures lawful { (user : User) → AllServe A1.serves A2.serves A3.serves A4.serves net.old user → IsErrOf result WorkFault.Unlawful → IsDisorderly (quel user)
         (seen (shape A1.state A2.state A3.state A4.state net.old) (outside B.database B.faults B.clock B.reads H.files H.faults S.left S.given S.faults K.written K.faults K.stalls room.old)) }
-    // Where the room is told, a crash leaves what it might leave before, or the database that this step leaves.
+    // Where the room is known, a crash leaves what it might leave before, or the database that this step leaves.
     ensures crash { (user : User) → AllServe A1.serves A2.serves A3.serves A4.serves net.old user → StepLeaves (quel user) (state_at (shape A1.state A2.state A3.state A4.state net.old) (stage_number k))
         (outside B.database B.faults B.clock B.reads H.files H.faults S.left S.given S.faults K.written K.faults K.stalls room.old)
         (outside B.database B.faults B.clock B.reads H.files H.faults S.left S.given S.faults K.written K.faults K.stalls room.new) (B.left_since room.old.base) (B.left_since room.new.base) }

@@ -31,8 +31,8 @@ fn is_told(status: u8) -> bool
 }
 
 /// The status that a Fault frame tells.
-fn told_by(frame: &Frame) -> Option<u8>
-    ensures told { IfSome result (λ status. frame.now ≡ fault_frame status) }
+fn known_by(frame: &Frame) -> Option<u8>
+    ensures known { IfSome result (λ status. frame.now ≡ fault_frame status) }
     ensures status { IfSome result (λ status. Contains told_statuses status) }
     ensures plain { IfNone result (IsPlain frame.now) }
 {
@@ -118,7 +118,7 @@ pub(crate) fn take_right<T: Stage, L: Link>(
 {
     let at = right.place;
     let frame = right.next_right(link, buf)?;
-    match told_by(&frame) {
+    match known_by(&frame) {
         Some(status) => Err(LoopFault::Told(status)),
         None => take_frame(alloc, stage, frame, at),
     }

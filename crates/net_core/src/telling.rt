@@ -17,5 +17,5 @@ pub(crate) fn tell<O: Sink>(left_out: &mut O, number: u8, fault: LoopFault)
     if number == 1 || status == 3 || status == 4 {
         return;
     }
-    let _told = write_all(left_out, &[9, 0, 1, status]);
+    let _known = write_all(left_out, &[9, 0, 1, status]);
 }

@@ -8,7 +8,7 @@ ghost use Rattle.net_core.specs.Crashes.{StaysDurable, TurnsLeave};
 ghost use Rattle.net_core.specs.Causes.{IsCaused};
 ghost use Rattle.net_core.specs.Reads.{CountsHeard, Within};
 ghost use Rattle.net_core.specs.Spares.{CountsOnly};
-ghost use Rattle.net_core.specs.Told.{KeepsDatabase, KeepsScript, Later, Outside, outside};
+ghost use Rattle.net_core.specs.Known.{KeepsDatabase, KeepsScript, Later, Outside, outside};
 ghost use Rattle.net_core.specs.declared.fault.WorkFault.{WorkFault as Fault};
 ghost use Rattle.net_core.specs.Whole.{AllServe, AreNumbered, IsDisorderly, StopsAt, WroteFront, heard_by, numbers_by, seen, shape};
 ghost use Rattle.quel_network.specs.Quel.{quel};
@@ -20,13 +20,13 @@ use crate::net::Net;
 use crate::room::Room;
 use crate::stage::Stage;
 use crate::steps::net_step;
-use am_traits::Base;
+use base_trait::Base;
 use fault_io::{Shelf, Sink, Source};
 use std::alloc::Global;
 
 /// The steps of a list of stage numbers, one after the other.
 ///
-/// Whatever the list is: where the room is told, an orderly network stays orderly, and the bytes in all,
+/// Whatever the list is: where the room is known, an orderly network stays orderly, and the bytes in all,
 /// those that were written, those of what is on its way and those of the rest of the session, stay the
 /// same; after an error a front of them was written. After an error the network isn't used again.
 pub fn net_turns<A1: Stage, A2: Stage, A3: Stage, A4: Stage, B: Base, H: Shelf, S: Source, K: Sink>(
@@ -72,14 +72,14 @@ pub fn net_turns<A1: Stage, A2: Stage, A3: Stage, A4: Stage, B: Base, H: Shelf, 
     ensures counts { CountsOnly
         (outside B.database B.faults B.clock B.reads H.files H.faults S.left S.given S.faults K.written K.faults K.stalls room.old)
         (outside B.database B.faults B.clock B.reads H.files H.faults S.left S.given S.faults K.written K.faults K.stalls room.new) result }
-    // From an orderly network whose room is told all that turns lead to.
+    // From an orderly network whose room is known all that turns lead to.
     ensures leads { (user : User) → AllServe A1.serves A2.serves A3.serves A4.serves net.old user → OnOk result (LeadsOn (quel user) (quel_work user) net.old.capacity turns.now
         (seen (shape A1.state A2.state A3.state A4.state net.old) (outside B.database B.faults B.clock B.reads H.files H.faults S.left S.given S.faults K.written K.faults K.stalls room.old))
         (seen (shape A1.state A2.state A3.state A4.state net.new) (outside B.database B.faults B.clock B.reads H.files H.faults S.left S.given S.faults K.written K.faults K.stalls room.new))) }
     ensures serve { (user : User) → AllServe A1.serves A2.serves A3.serves A4.serves net.old user → AllServe A1.serves A2.serves A3.serves A4.serves net.new user }
     ensures numbers { AreNumbered A1.place A2.place A3.place A4.place net.old → AreNumbered A1.place A2.place A3.place A4.place net.new }
     ensures capacity { net.new.capacity ≡ net.old.capacity }
-    // Where the room is told, a crash leaves what it might leave before, or a database that these steps leave.
+    // Where the room is known, a crash leaves what it might leave before, or a database that these steps leave.
     ensures crash { (user : User) → AllServe A1.serves A2.serves A3.serves A4.serves net.old user → TurnsLeave (quel user) net.old.capacity turns.now
         (seen (shape A1.state A2.state A3.state A4.state net.old) (outside B.database B.faults B.clock B.reads H.files H.faults S.left S.given S.faults K.written K.faults K.stalls room.old))
         (B.clock room.old.base) (B.clock room.new.base) (B.left_since room.old.base) (B.left_since room.new.base) }

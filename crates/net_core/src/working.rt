@@ -3,7 +3,7 @@
 ghost use Rattle.std.specs.Prelude.{◌≡◌, OnOk};
 ghost use Rattle.net_core.specs.Crashes.{HandsOver, QuietWithout, StaysDurable, WorkLeaves};
 ghost use Rattle.net_core.specs.Reads.{CountsHeard};
-ghost use Rattle.net_core.specs.Told.{KeepsDatabase, KeepsScript, Later, outside};
+ghost use Rattle.net_core.specs.Known.{KeepsDatabase, KeepsScript, Later, outside};
 ghost use Rattle.net_core.specs.Wants.{IsToWork};
 ghost use Rattle.quel_network.specs.Quel.{quel};
 ghost use Rattle.quel_network.specs.Sorts.{User};
@@ -12,7 +12,7 @@ ghost use Rattle.net_core.specs.WholeLoop.{EndsKept, LoopCounts, LoopWithin};
 
 use crate::loop_fault::LoopFault;
 use crate::{Moved, Room, Stage, WorkFault};
-use am_traits::Base;
+use base_trait::Base;
 use fault_io::{Shelf, Sink, Source};
 use std::alloc::Global;
 

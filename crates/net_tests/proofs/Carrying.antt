@@ -4,13 +4,13 @@ use Rattle.std.proofs.lemmas.List.{append-nil}
 use Rattle.std.proofs.KnownBytes.{Appends-nil}
 use Rattle.std.proofs.lemmas.Option.{same_Some}
 use Rattle.std.specs.declared.option.Option.{Option}
-use Rattle.am_traits.proofs.Crashes.{leaves_as, leaves_more, still_stands}
-use Rattle.am_traits.specs.Causes.{MayCome as BaseMayCome}
-use Rattle.am_traits.specs.declared.fault.BaseFault.{BaseFault}
-use Rattle.am_traits.specs.declared.fault.BaseFault.TheVariants as base_faults
+use Rattle.base_trait.proofs.Crashes.{leaves_as, leaves_more, still_stands}
+use Rattle.base_trait.specs.Causes.{MayCome as BaseMayCome}
+use Rattle.base_trait.specs.declared.fault.BaseFault.{BaseFault}
+use Rattle.base_trait.specs.declared.fault.BaseFault.TheVariants as base_faults
 use Rattle.calculus.specs.declared.change.DbChange.TheVariants.{Destroy}
 use Rattle.calculus.specs.declared.query.RelKey.{RelKey}
-use Rattle.am_traits.specs.Crashes.{LeavesBut, Stands}
+use Rattle.base_trait.specs.Crashes.{LeavesBut, AllDenote}
 use Rattle.calculus.specs.Change.{IsLawful, laid, names_what_is_there, adds_what_is_new, lists_once}
 use Rattle.calculus.specs.Database.{Db}
 use Rattle.calculus.specs.IsDatabase.{IsDatabase}
@@ -20,7 +20,7 @@ use Rattle.net_core.specs.Crashes.{IsForgotten, MayLeave, QuietWithout, StaysDur
 use Rattle.net_core.specs.declared.fault.WorkFault.{WorkFault}
 use Rattle.net_core.specs.declared.fault.WorkFault.TheVariants as faults
 use Rattle.net_core.specs.Spares.{Counts, CountsOnlyBy, IsNoFaultOfEnds, SparesBy}
-use Rattle.net_core.specs.Told.{FailedWork, IsBeforeOrAfter, Outside, told}
+use Rattle.net_core.specs.Known.{FailedWork, IsBeforeOrAfter, Outside, known}
 use Rattle.net_tests.specs.Carrying.{CarriedOut, MayComeOf, carrying, done_frame, no_change, of_base}
 use Rattle.net_tests.specs.declared.carrier.Stand.{Stand}
 use Rattle.net_tests.specs.declared.carrier.Stand.TheVariants.{Holds, Answers, Rests}
@@ -73,18 +73,18 @@ unfolding change_codec list number16
 spelled = ((omega arith, omega arith), tt)
 
 carried : (user : User) (o o' : Outside) → ((db : Db) → o.database ≡ Some db → IsDatabase db × (o'.database ≡ Some (laid db no_change))) → o'.files ≡ o.files → o'.script ≡ o.script → o'.output ≡ o.output →
-    WorkDone (quel user) (carrying Holds) (carrying Answers) (told o) (told o')
+    WorkDone (quel user) (carrying Holds) (carrying Answers) (known o) (known o')
 unfolding quel
 carried user o o' made files script output = record {
   act = says idle4 (said (replied done) ∷ []);
   is = ap (λ fs. record { mode = idle4; got_left = []; got_right = []; out_left = fs; out_right = [] }) (sym (done_frames user));
   shape = refl;
-  fit = λ db shelf known known_files. (record { lawful = any_takes db (made db known).0; spelled = spelled }, refl);
+  fit = λ db shelf is_there known_files. (record { lawful = any_takes db (made db is_there).0; spelled = spelled }, refl);
   exact = λ room t.
       let after = made room.db t.db in
       record {
         room' = record { db = laid room.db no_change; shelf = room.shelf; script = room.script; out = room.out };
-        told = record { db = after.1; shelf = files ∙ t.shelf; script = script ∙ t.script };
+        known = record { db = after.1; shelf = files ∙ t.shelf; script = script ∙ t.script };
         wrote = ([], sym (append-nil room.out), rw output (Appends-nil o.output));
         works = (refl, refl);
       };
@@ -95,14 +95,14 @@ abbrev pub changed : Outside → Option Db → ℕ → ℕ → ℕ → Outside
 changed o database count clock reads = record o { database = database; base_faults = count; clock = clock; reads = reads }
 
 pub works_ok : (user : User) (s : Stand) (o : Outside) (db' schema' : Option Db) (count' clock' reads' : ℕ) (left left' : ℕ → Option Db → Type 0) (x : Unit {0}) → s ≡ Holds → ((db : Db) → o.database ≡ Some db → IsDatabase db) →
-    CarriedOut o.database db' schema' o.base_faults count' o.clock clock' left left' (Ok x) → WorkDone (quel user) (carrying s) (carrying Answers) (told o) (told (changed o db' count' clock' reads'))
+    CarriedOut o.database db' schema' o.base_faults count' o.clock clock' left left' (Ok x) → WorkDone (quel user) (carrying s) (carrying Answers) (known o) (known (changed o db' count' clock' reads'))
 works_ok user s o db' schema' count' clock' reads' left left' x e is d =
-    subst (λ (z : Stand). WorkDone (quel user) (carrying z) (carrying Answers) (told o) (told (changed o db' count' clock' reads'))) (sym e)
-    (carried user o (changed o db' count' clock' reads') (λ db known. (is db known, d.done db known)) refl refl refl)
+    subst (λ (z : Stand). WorkDone (quel user) (carrying z) (carrying Answers) (known o) (known (changed o db' count' clock' reads'))) (sym e)
+    (carried user o (changed o db' count' clock' reads') (λ db is_there. (is db is_there, d.done db is_there)) refl refl refl)
 
 pub durable_ok : (o : Outside) (db' schema' : Option Db) (count' clock' reads' : ℕ) (left left' : ℕ → Option Db → Type 0) (x : Unit {0}) →
     CarriedOut o.database db' schema' o.base_faults count' o.clock clock' left left' (Ok x) → StaysDurable o (changed o db' count' clock' reads') left left'
-durable_ok o db' schema' count' clock' reads' left left' x d db now known then stands = subst (λ (z : Db). Stands clock' left' z) (same_Some (laid db no_change) now (sym (d.done db known) ∙ then)) (d.durable db known)
+durable_ok o db' schema' count' clock' reads' left left' x d db now is_there then stands = subst (λ (z : Db). AllDenote clock' left' z) (same_Some (laid db no_change) now (sym (d.done db is_there) ∙ then)) (d.durable db is_there)
 
 pub crash_any : (user : User) (s : Stand) (o : Outside) (db' schema' : Option Db) (count' clock' reads' : ℕ) (left left' : ℕ → Option Db → Type 0) (result : Result (Unit {0}) WorkFault) → s ≡ Holds →
     CarriedOut o.database db' schema' o.base_faults count' o.clock clock' left left' result → WorkLeaves (quel user) (carrying s).mode o (changed o db' count' clock' reads') left left'
@@ -126,7 +126,7 @@ failed_by user o db' schema' count' clock' reads' left left' f d = record {
     files = inl t.shelf;
     database = λ now then. by room now (d.failed room.db now t.db then);
   };
-  files = λ files known. inl known;
+  files = λ files is_there. inl is_there;
 }
   where
     by : (room : NetworkRoom quel_sorts) (now : Db) → (now ≡ room.db) ⊎ (now ≡ laid room.db no_change) → IsBeforeOrAfter (quel user) (carrying Holds).mode room now
@@ -206,19 +206,19 @@ pub takes : (rels : List RelKey) (db : Db) → rels ≡ [] → IsDatabase db →
 takes rels db e is = subst (λ change. IsLawful db change) (sym (destroys rels e)) (any_takes db is)
 
 pub carried_ok : (rels : List RelKey) (db mid now schema : Option Db) (n n' n'' k k' k'' : ℕ) (l l' l'' : ℕ → Option Db → Type 0) (x : Unit {0}) → rels ≡ [] →
-    ((d : Db) → db ≡ Some d → mid ≡ Some (laid d (Destroy rels))) → ((d : Db) → db ≡ Some d → LeavesBut (λ o. o ≡ Some (laid d (Destroy rels))) k k' l l') → ((d : Db) → db ≡ Some d → Stands k' l' (laid d (Destroy rels))) →
+    ((d : Db) → db ≡ Some d → mid ≡ Some (laid d (Destroy rels))) → ((d : Db) → db ≡ Some d → LeavesBut (λ o. o ≡ Some (laid d (Destroy rels))) k k' l l') → ((d : Db) → db ≡ Some d → AllDenote k' l' (laid d (Destroy rels))) →
     n' ≡ n → now ≡ mid → n'' ≡ n' → IsForgotten schema now → LeavesBut (λ o. ⊥) k' k'' l' l'' → ((t : ℕ) (o : Option Db) → t ≤ k'' → l'' k'' o → l'' t o) →
     CarriedOut db now schema n n'' k k'' l l'' (Ok x)
-carried_ok rels db mid now schema n n' n'' k k' k'' l l' l'' x e told crash durable same kept faults forgotten asked counts = record {
-  done = λ d known. kept ∙ told d known ∙ ap (λ change. Some (laid d change)) (destroys rels e);
-  failed = λ d other known then. tt;
+carried_ok rels db mid now schema n n' n'' k k' k'' l l' l'' x e known crash durable same kept faults forgotten asked counts = record {
+  done = λ d is_there. kept ∙ known d is_there ∙ ap (λ change. Some (laid d change)) (destroys rels e);
+  failed = λ d other is_there then. tt;
   no_memory = λ err. absurd (cc err);
   later = omega (arith, same, faults);
   counted = faults ∙ same;
   cause = tt;
-  crash = λ d known. subst (λ change. LeavesBut (λ o. o ≡ Some (laid d change)) k k'' l l'') (destroys rels e)
-      (leaves_more (λ o. o ≡ Some (laid d (Destroy rels))) (λ o. ⊥) k k' k'' l l' l'' (λ o never. absurd never) (crash d known) asked);
-  durable = λ d known. subst (λ change. Stands k'' l'' (laid d change)) (destroys rels e) (still_stands k' k'' l' l'' (laid d (Destroy rels)) counts asked (durable d known));
+  crash = λ d is_there. subst (λ change. LeavesBut (λ o. o ≡ Some (laid d change)) k k'' l l'') (destroys rels e)
+      (leaves_more (λ o. o ≡ Some (laid d (Destroy rels))) (λ o. ⊥) k k' k'' l l' l'' (λ o never. absurd never) (crash d is_there) asked);
+  durable = λ d is_there. subst (λ change. AllDenote k'' l'' (laid d change)) (destroys rels e) (still_stands k' k'' l' l'' (laid d (Destroy rels)) counts asked (durable d is_there));
   handed = forgotten;
 }
 
@@ -237,13 +237,13 @@ pub carried_err : (rels : List RelKey) (db now schema : Option Db) (n n' k k' : 
     (IsErrOf {T = Unit {0}} (Err f) base_faults.OutOfMemory → now ≡ db) → n ≤ n' → BaseMayCome db n n' f → CarriedOut db now schema n n' k k' l l' (Err fault)
 carried_err rels db now schema n n' k k' l l' f fault e is failed crash memory later may =
     subst (λ x. CarriedOut db now schema n n' k k' l l' (Err x)) (sym is) (record {
-      done = λ d known. tt;
-      failed = λ d other known then. subst (λ change. (other ≡ d) ⊎ (other ≡ laid d change)) (destroys rels e) (failed d other known then);
+      done = λ d is_there. tt;
+      failed = λ d other is_there then. subst (λ change. (other ≡ d) ⊎ (other ≡ laid d change)) (destroys rels e) (failed d other is_there then);
       no_memory = λ err. memory (ap (λ x. Err x) (memory_of f err));
       later = later;
       counted = tt;
       cause = may_come db n n' f may;
-      crash = λ d known. subst (λ change. LeavesBut (λ o. o ≡ Some (laid d change)) k k' l l') (destroys rels e) (crash d known);
-      durable = λ d known. tt;
+      crash = λ d is_there. subst (λ change. LeavesBut (λ o. o ≡ Some (laid d change)) k k' l l') (destroys rels e) (crash d is_there);
+      durable = λ d is_there. tt;
       handed = tt;
     })

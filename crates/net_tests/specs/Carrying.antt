@@ -1,9 +1,9 @@
 -- Where a fourth stage stands that carries out one change, and what carrying it out comes to.
 use Rattle.std.specs.Prelude.{◌≡◌, ◌⊎◌, ◌≤◌, ℕ, List, [], ◌∷◌, Some, None, Result, IfErr, IsErrOf, OnErr, OnOk}
 use Rattle.std.specs.declared.option.Option.{Option}
-use Rattle.am_traits.specs.Crashes.{LeavesBut, Stands}
-use Rattle.am_traits.specs.declared.fault.BaseFault.{BaseFault}
-use Rattle.am_traits.specs.declared.fault.BaseFault.TheVariants as base_faults
+use Rattle.base_trait.specs.Crashes.{LeavesBut, AllDenote}
+use Rattle.base_trait.specs.declared.fault.BaseFault.{BaseFault}
+use Rattle.base_trait.specs.declared.fault.BaseFault.TheVariants as base_faults
 use Rattle.calculus.specs.Change.{laid}
 use Rattle.calculus.specs.Database.{Db}
 use Rattle.calculus.specs.declared.change.DbChange.{DbChange}
@@ -52,10 +52,10 @@ of_base base_faults.OutOfMemory = faults.OutOfMemory
 
 -- this fault comes of a database: of the disk where its count rose; else that stayed: of damage where no database is known, and want of memory
 abbrev pub MayComeOf : Option Db → ℕ → ℕ → WorkFault → Type 0
-MayComeOf told before now faults.Disk = Rose before now
-MayComeOf told before now (faults.Damaged file page) = (told ≡ None) × (now ≡ before)
-MayComeOf told before now faults.OutOfMemory = now ≡ before
-MayComeOf told before now _ = ⊥
+MayComeOf known before now faults.Disk = Rose before now
+MayComeOf known before now (faults.Damaged file page) = (known ≡ None) × (now ≡ before)
+MayComeOf known before now faults.OutOfMemory = now ≡ before
+MayComeOf known before now _ = ⊥
 
 -- the change was carried out, and the database handed over; or it failed, by a fault of the database
 pub record CarriedOut (db db' schema' : Option Db) (count count' clock clock' : ℕ) (left left' : ℕ → Option Db → Type 0) (result : Result (Unit {0}) WorkFault) : Type 0 where
@@ -66,5 +66,5 @@ pub record CarriedOut (db db' schema' : Option Db) (count count' clock clock' : 
   pub counted : OnOk result (count' ≡ count)
   pub cause : IfErr result (λ fault. MayComeOf db count count' fault)
   pub crash : (d : Db) → db ≡ Some d → LeavesBut (λ o. o ≡ Some (laid d no_change)) clock clock' left left'
-  pub durable : (d : Db) → db ≡ Some d → OnOk result (Stands clock' left' (laid d no_change))
+  pub durable : (d : Db) → db ≡ Some d → OnOk result (AllDenote clock' left' (laid d no_change))
   pub handed : OnOk result (IsForgotten schema' db')

@@ -1,9 +1,9 @@
 // A fourth stage that serves everyone: it carries out one change, answers that this is done, and takes nothing more.
 ghost use Rattle.std.specs.Prelude.{◌≡◌};
-ghost use Rattle.am_traits.specs.Causes.{HasCause};
+ghost use Rattle.base_trait.specs.Causes.{HasCause};
 ghost use Rattle.net_tests.specs.Carrying.{CarriedOut, of_base};
 
-use am_traits::{Base, BaseFault};
+use base_trait::{Base, BaseFault};
 use calculus::DbChange;
 use fault_io::{Shelf, Sink, Source};
 use frame_codec::Frame;

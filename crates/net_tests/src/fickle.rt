@@ -2,15 +2,15 @@
 ghost use Rattle.std.specs.Prelude.{None, [], false, true, refl};
 ghost use Rattle.std.proofs.Common.{arith};
 ghost use Rattle.std.proofs.lemmas.Option.{none-some};
-ghost use Rattle.am_traits.specs.InMemory.{asked_in_memory};
+ghost use Rattle.base_trait.specs.InMemory.{asked_in_memory};
 
-use am_traits::{Base, BaseFault};
+use base_trait::{Base, BaseFault};
 use calculus::{
     DbChange, Name, OutOfMemory, Permit, Place, Probe, Query, RelInfo, RelKey, Row, Rule, Value,
 };
 use std::alloc::Global;
 
-/// A base that tells no database and no schema. Each row that it gives, and each number, is another one
+/// A base of which no database is known and no schema. Each row that it gives, and each number, is another one
 /// than before, and a scan never ends. It takes each change, and nothing changes it.
 pub(crate) struct Fickle {
     asked: u32,
@@ -69,11 +69,11 @@ impl Base for Fickle {
 
     ghost left = { λ _ _ _. [] };
 
-    ghost lawful = { λ _ db told. absurd (none-some db told) };
+    ghost lawful = { λ _ db known. absurd (none-some db known) };
 
-    ghost own = { λ _ db told. absurd (none-some db told) };
+    ghost own = { λ _ db known. absurd (none-some db known) };
 
-    ghost scanned = { λ _ db _ told. absurd (none-some db told) };
+    ghost scanned = { λ _ db _ known. absurd (none-some db known) };
 
     ghost counts_now = { λ _ _ _ _ left. left };
 

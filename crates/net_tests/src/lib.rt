@@ -2,9 +2,15 @@
 #![tactic(auto)]
 
 mod carrier;
+#[cfg(test)]
+mod faults;
 mod fickle;
 #[cfg(test)]
+mod hearing;
+#[cfg(test)]
 mod links;
+#[cfg(test)]
+mod messages;
 #[cfg(test)]
 mod orders;
 mod players;
@@ -14,3 +20,5 @@ mod processes;
 mod rounds;
 #[cfg(test)]
 mod serving;
+#[cfg(test)]
+mod streams;

@@ -3,7 +3,7 @@ ghost use Rattle.std.specs.Prelude.{◌≤◌, All, IsTrue};
 
 use crate::fickle::Fickle;
 use crate::players::{Act, Move, Player};
-use am_traits::Base;
+use base_trait::Base;
 use calculus::Name;
 use fault_io::{MemShelf, MemSink, MemSource};
 use net_core::{Moved, Net, Room, WorkFault, net_ended, net_step, net_turns};
@@ -325,8 +325,8 @@ const STEPS: [(u8, Moved); 12] = [
 fn a_step_is_blocked_by_an_empty_and_by_a_full_pipe(rt: HostRuntime) {
     let mut net = players(&rt, rt.alloc(), 1);
     let mut room = room(&rt, rt.alloc(), &[]);
-    for (k, moved) in STEPS {
-        assert!(rt; stepped(rt.alloc(), &mut net, &mut room, k) == Some(Ok(moved)));
+    for (k, moved) in &STEPS {
+        assert!(rt; stepped(rt.alloc(), &mut net, &mut room, *k) == Some(Ok(*moved)));
         assert!(rt; !net_ended(&net));
     }
     drop(net);

@@ -3,7 +3,7 @@ ghost use Rattle.std.specs.Prelude.{◌≡◌, IfOk, IsTrue};
 ghost use Rattle.frame_codec.specs.Frames.{is_lawful};
 ghost use Rattle.net_tests.specs.Playing.{frame_of};
 
-use am_traits::Base;
+use base_trait::Base;
 use fault_io::{Shelf, Sink, Source, write_all};
 use frame_codec::Frame;
 use memory::{List, OutOfMemory};

@@ -38,7 +38,7 @@ struct Came {
 }
 
 /// What comes of calls that fail, one after the other.
-const FAILING: [([&[u64]; 4], Came); 9] = [
+static FAILING: [([&[u64]; 4], Came); 9] = [
     (
         [&[0], &[], &[], &[]],
         Came {
@@ -236,25 +236,25 @@ fn comes_so<R: Abort>(rt: &R, alloc: Global, case: Case, came: Came) -> bool {
 
 #[test]
 fn each_call_that_fails_has_its_fault(rt: HostRuntime) {
-    for (failing, came) in FAILING {
+    for (failing, came) in &FAILING {
         let case = Case {
             from_left: FROM_LEFT,
             from_right: FROM_RIGHT,
-            failing,
+            failing: *failing,
         };
-        assert!(rt; comes_so(&rt, rt.alloc(), case, came));
+        assert!(rt; comes_so(&rt, rt.alloc(), case, *came));
     }
 }
 
 #[test]
 fn what_comes_is_taken_up_to_its_fault(rt: HostRuntime) {
-    for (from_left, from_right, came) in COMING {
+    for (from_left, from_right, came) in &COMING {
         let case = Case {
             from_left,
             from_right,
             failing: [&[], &[], &[], &[]],
         };
-        assert!(rt; comes_so(&rt, rt.alloc(), case, came));
+        assert!(rt; comes_so(&rt, rt.alloc(), case, *came));
     }
 }
 

@@ -1,7 +1,7 @@
 // A stage that serves everyone, over a database in memory and over one of which nothing is known.
 use crate::carrier::Carrier;
 use crate::orders::{room, unknown};
-use am_traits::Base;
+use base_trait::Base;
 use fault_io::{MemShelf, MemSink, MemSource};
 use frame_codec::Frame;
 use net_core::{Room, Stage, Want};

@@ -5,7 +5,7 @@ use Rattle.network_meaning.specs.Sorts.{Sorts, Outcome, Kind, Next, Meaning, Eve
 use Rattle.network_meaning.specs.Sorts.{Cargo.tree, Cargo.change, Message.text, Message.cargo, Message.said, Message.end, Message.quit, Outcome.tables, Outcome.made, Outcome.refuses, Meaning.names, Meaning.objects, Meaning.runs, Next.no_more, Next.bad, Next.found, Event.goes_on, Event.sends, Event.leaves, Kind.answer, Kind.update, Kind.utility}
 use Rattle.network_meaning.specs.Language.{Language}
 use Rattle.network_meaning.specs.Laws.{Laws}
-use Rattle.network_meaning.specs.LocalSteps.{Mode, Want, Act, Room, Works, Parses, Judges, Processes, CarriesOut, all_shown, read_act}
+use Rattle.network_meaning.specs.LocalSteps.{Mode, Want, Act, Room, Works, Parses, Checks, Processes, CarriesOut, all_shown, read_act}
 use Rattle.network_meaning.specs.LocalSteps.{Want.take_left, Want.take_right, Want.give_left, Want.give_right, Want.work, Want.none}
 use Rattle.network_meaning.specs.LocalSteps.{Mode.reading, Mode.waiting, Mode.printing, Mode.idle2, Mode.parsing, Mode.passing2, Mode.idle3, Mode.working3, Mode.passing3, Mode.idle4, Mode.working4, Mode.ended}
 use Rattle.network_meaning.specs.Lawful.{FitWork}
@@ -14,8 +14,8 @@ use Rattle.network_meaning.specs.Network.{Between, Network, between, put_between
 use Rattle.network_meaning.specs.Calls.{join}
 use Rattle.network_meaning.specs.OrderlyShape.{shape_of}
 use Rattle.network_meaning.specs.Spelled.{IsLine}
-use Rattle.network_meaning.specs.WorkShape.{SendsSpelled, JudgeShape, ParseShape, ProcessShape, UtilityShape, WorkShape, WorksInShape}
-use Rattle.network_meaning.specs.WorkShape.{JudgeShape.names as shape_names, JudgeShape.objects as shape_objects, JudgeShape.runs as shape_runs, AnswerShape.tables as shape_tables, AnswerShape.refuses as answer_refused, UpdateShape.changes, UpdateShape.refuses as update_refused, UtilityShape.does, UtilityShape.refuses as utility_refused}
+use Rattle.network_meaning.specs.WorkShape.{SendsSpelled, CheckShape, ParseShape, ProcessShape, UtilityShape, WorkShape, WorksInShape}
+use Rattle.network_meaning.specs.WorkShape.{CheckShape.names as shape_names, CheckShape.objects as shape_objects, CheckShape.runs as shape_runs, AnswerShape.tables as shape_tables, AnswerShape.refuses as answer_refused, UpdateShape.changes, UpdateShape.refuses as update_refused, UtilityShape.does, UtilityShape.refuses as utility_refused}
 use Rattle.network_meaning.specs.Turn.{also, has_turn, turns_behind, worker}
 use Rattle.network_meaning.proofs.NothingUnlawful.{fit_work}
 use Rattle.network_meaning.proofs.Turn.{shown_left}
@@ -25,17 +25,17 @@ sends_spelled L laws m room goes_on e = tt
 sends_spelled L laws m room (sends t) e = laws.text_spelled m room.script room.shelf t e
 sends_spelled L laws m room leaves e = tt
 
-judged_shape : {S : Sorts} (L : Language S) (laws : Laws L) (room : Room S) (ranges : S.Ranges) (s : S.Statement) (line : ℕ) (b : S.Batch) (meaning : Meaning S) (act : Act S) →
-    IsLine L line → L.meaning room.db room.shelf ranges s ≡ meaning → Judges L room ranges line b meaning act → JudgeShape L ranges line b act
-judged_shape L laws room ranges s line b (names ranges') act is e j = shape_names ranges' j
-judged_shape L laws room ranges s line b (objects r) act is e j = shape_objects r (laws.line_spelled line r is (laws.objection_spelled room.db room.shelf ranges s r e)) j
-judged_shape L laws room ranges s line b (runs outcome) act is e (t, fits, comes, j) = shape_runs t (laws.tree_spelled t room.db fits) j
+checked_shape : {S : Sorts} (L : Language S) (laws : Laws L) (room : Room S) (ranges : S.Ranges) (s : S.Statement) (line : ℕ) (b : S.Batch) (meaning : Meaning S) (act : Act S) →
+    IsLine L line → L.meaning room.db room.shelf ranges s ≡ meaning → Checks L room ranges line b meaning act → CheckShape L ranges line b act
+checked_shape L laws room ranges s line b (names ranges') act is e j = shape_names ranges' j
+checked_shape L laws room ranges s line b (objects r) act is e j = shape_objects r (laws.line_spelled line r is (laws.objection_spelled room.db room.shelf ranges s r e)) j
+checked_shape L laws room ranges s line b (runs outcome) act is e (t, fits, comes, j) = shape_runs t (laws.tree_spelled t room.db fits) j
 
 parsed_shape : {S : Sorts} (L : Language S) (laws : Laws L) (room : Room S) (ranges : S.Ranges) (old : S.Batch) (next : Next S) (act : Act S) → L.next old ≡ next → Parses L room ranges next act → ParseShape L ranges next act
 parsed_shape L laws room ranges old no_more act e j = j
 parsed_shape L laws room ranges old (bad r) act e j = j
 parsed_shape L laws room ranges old (found s line b) act e j =
-    judged_shape L laws room ranges s line b (L.meaning room.db room.shelf ranges s) act (record { batch = old; statement = s; later = b; is = e }) refl j
+    checked_shape L laws room ranges s line b (L.meaning room.db room.shelf ranges s) act (record { batch = old; statement = s; later = b; is = e }) refl j
 
 processed_shape : {S : Sorts} (L : Language S) (laws : Laws L) (room : Room S) (t : S.Tree) (kind : Kind) (outcome : Outcome S) (act : Act S) →
     L.Fits t room.db → L.outcome t room.db room.shelf ≡ outcome → Processes L room t kind outcome act → ProcessShape L t kind act
@@ -86,15 +86,15 @@ parsed_turn : {S : Sorts} (L : Language S) (ranges : S.Ranges) (next : Next S) (
 parsed_turn L ranges no_more act e = rw e refl
 parsed_turn L ranges (bad r) act e = rw e refl
 parsed_turn L ranges (found s line b) act (shape_names ranges' e) = rw e refl
-parsed_turn L ranges (found s line b) act (shape_objects r told e) = rw e refl
-parsed_turn L ranges (found s line b) act (shape_runs t told e) = rw e refl
+parsed_turn L ranges (found s line b) act (shape_objects r known e) = rw e refl
+parsed_turn L ranges (found s line b) act (shape_runs t known e) = rw e refl
 
 processed_turn : {S : Sorts} (L : Language S) (t : S.Tree) (kind : Kind) (act : Act S) → ProcessShape L t kind act → turns_behind third act ≡ 1
-processed_turn L t answer act (shape_tables ts tops fit told e) = rw e (shown_left (all_shown ts) (end ∷ []) 0)
+processed_turn L t answer act (shape_tables ts tops fit known e) = rw e (shown_left (all_shown ts) (end ∷ []) 0)
 processed_turn L t answer act (answer_refused h) = rw h.is refl
-processed_turn L t update act (changes c told e) = rw e refl
+processed_turn L t update act (changes c known e) = rw e refl
 processed_turn L t update act (update_refused h) = rw h.is refl
-processed_turn L t utility act (told, e) = rw e refl
+processed_turn L t utility act (known, e) = rw e refl
 
 -- work of its shape leaves the turn where it goes on with it: at the stage, or in one message that it gives
 pub shape_turn : {S : Sorts} (L : Language S) (mode : Mode S) (act : Act S) → WorkShape L mode act → turns_behind (worker mode) act ≡ also (has_turn (worker mode) mode) 0

@@ -5,7 +5,7 @@ use Rattle.network_meaning.specs.Sorts.{Sorts, Cargo, Cargo.tree, Cargo.change, 
 use Rattle.network_meaning.specs.Sorts.{Reply.done, Reply.refused, Said.shown, Said.replied, Message.cargo, Message.said, Message.end, Next.no_more, Next.bad, Next.found, Meaning.names, Meaning.objects, Meaning.runs}
 use Rattle.network_meaning.specs.Language.{Language, after_next, after_meaning}
 use Rattle.network_meaning.specs.Laws.{Laws}
-use Rattle.network_meaning.specs.LocalSteps.{Mode.idle3, Mode.working3, Mode.working4, Mode.passing3, Mode.idle4, Mode.idle2, Mode.parsing, Mode.passing2, Act, Room, Processes, CarriesOut, Judges, Parses, turns_to, says, hands, outcome_of, all_shown, goes_to_four}
+use Rattle.network_meaning.specs.LocalSteps.{Mode.idle3, Mode.working3, Mode.working4, Mode.passing3, Mode.idle4, Mode.idle2, Mode.parsing, Mode.passing2, Act, Room, Processes, CarriesOut, Checks, Parses, turns_to, says, hands, outcome_of, all_shown, goes_to_four}
 use Rattle.network_meaning.specs.MessageNetwork.{MessageNetwork, Beside, StageNumber, StageNumber.second, StageNumber.third, StageNumber.fourth, beside, put, acted, MessageStep}
 use Rattle.network_meaning.specs.Held.{with_line}
 use Rattle.network_meaning.specs.WorkLeft.{Work, WorkLaws, size, count, e_cost, d_cost, Lowers, next_work, meaning_work}
@@ -93,18 +93,18 @@ fourth_lowers L W w (in_e_tables line b ss) room v' (s', h, e3) = absurd h
 fourth_lowers L W w (in_e_reply line b r) room v' (s', h, e3) = absurd h
 fourth_lowers L W w in_f room v' (s', h, e3) = absurd h
 
-judges_lower : {S : Sorts} (L : Language S) (W : Work L) (laws : WorkLaws L W) (w : Front S) (old b : S.Batch) (line : ℕ) (room : Room S) (v' : MessageNetwork S) (meaning : Meaning S) (act : Act S) (room' : Room S) (s' : Beside S) →
+checks_lower : {S : Sorts} (L : Language S) (W : Work L) (laws : WorkLaws L W) (w : Front S) (old b : S.Batch) (line : ℕ) (room : Room S) (v' : MessageNetwork S) (meaning : Meaning S) (act : Act S) (room' : Room S) (s' : Beside S) →
     L.batch_runs room.db room.shelf w.ranges old ≡ after_meaning L room.db room.shelf w.ranges line b meaning →
     1 + meaning_work L W room.db room.shelf w.ranges line b meaning ≤ W.batch_work room.db room.shelf w.ranges old →
-    Judges L room w.ranges line b meaning act → room' ≡ room →
+    Checks L room w.ranges line b meaning act → room' ≡ room →
     s' ≡ acted (beside (spread (away w (at_two old)) room) second) act [] [] room' → v' ≡ put (spread (away w (at_two old)) room) second s' →
     Lowers L W second (spread (away w (at_two old)) room) v'
-judges_lower L W laws w old b line room v' (names ranges') act room' s' e le j e2 e3 e4 =
+checks_lower L W laws w old b line room v' (names ranges') act room' s' e le j e2 e3 e4 =
     done_by L W second _ (turns_to (parsing ranges' b)) act [] [] room room' s' v' j e2 e3 e4 (record { lower = simp append-nil (rw e (omega arith)) })
-judges_lower L W laws w old b line room v' (objects r) act room' s' e le j e2 e3 e4 =
+checks_lower L W laws w old b line room v' (objects r) act room' s' e le j e2 e3 e4 =
     done_by L W second _ (says (parsing w.ranges b) (said (replied (refused (L.lined line r))) ∷ [])) act [] [] room room' s' v' j e2 e3 e4
     (record { lower = simp (append-nil, size-append, length-append) (rw e (omega arith)) })
-judges_lower {S} L W laws w old b line room v' (runs outcome) act room' s' e le (t, fits, e1, j) e2 e3 e4 =
+checks_lower {S} L W laws w old b line room v' (runs outcome) act room' s' e le (t, fits, e1, j) e2 e3 e4 =
     let most : count {S = S} L (cargo (tree t)) ≤ W.most = laws.tree t room.db fits in
     done_by L W second _ (hands (passing2 w.ranges line b) (cargo (tree t))) act [] [] room room' s' v' j e2 e3 e4 (record { lower = simp append-nil (rw (e, e1) (omega arith)) })
 
@@ -119,7 +119,7 @@ parses_lower L W laws w old room v' no_more act room' s' e le j e2 e3 e4 =
 parses_lower L W laws w old room v' (bad r) act room' s' e le j e2 e3 e4 =
     done_by L W second _ (says (idle2 w.ranges) (said (replied (refused r)) ∷ end ∷ [])) act [] [] room room' s' v' j e2 e3 e4 (record { lower = simp (append-nil, size-append, length-append) (rw e (omega arith)) })
 parses_lower L W laws w old room v' (found s line b) act room' s' e le j e2 e3 e4 =
-    judges_lower L W laws w old b line room v' (L.meaning room.db room.shelf w.ranges s) act room' s' e le j e2 e3 e4
+    checks_lower L W laws w old b line room v' (L.meaning room.db room.shelf w.ranges s) act room' s' e le j e2 e3 e4
 
 passes_lower : {S : Sorts} (L : Language S) (W : Work L) (w : Front S) (line : ℕ) (b : S.Batch) (ss : List (Shown S)) (room : Room S) (v' : MessageNetwork S) →
     MessageStep L second (spread (away w (in_e_tables line b ss)) room) v' → Lowers L W second (spread (away w (in_e_tables line b ss)) room) v'

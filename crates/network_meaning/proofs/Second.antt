@@ -6,7 +6,7 @@ use Rattle.network_meaning.specs.Sorts.{Reply.done, Reply.refused, Said.shown, S
 use Rattle.network_meaning.specs.Sorts.{Next.no_more, Next.bad, Next.found, Meaning.names, Meaning.objects, Meaning.runs}
 use Rattle.network_meaning.specs.Language.{Language, after_next, after_meaning}
 use Rattle.network_meaning.specs.Laws.{Laws}
-use Rattle.network_meaning.specs.LocalSteps.{Mode.parsing, Mode.passing2, Mode.idle2, Act, Room, Parses, Judges, turns_to, says, hands, set_line}
+use Rattle.network_meaning.specs.LocalSteps.{Mode.parsing, Mode.passing2, Mode.idle2, Act, Room, Parses, Checks, turns_to, says, hands, set_line}
 use Rattle.network_meaning.specs.MessageNetwork.{MessageNetwork, Beside, StageNumber.second, beside, put, acted, MessageStep}
 use Rattle.network_meaning.specs.Held.{kept, begun, with_line}
 use Rattle.network_meaning.specs.Due.{IsDue}
@@ -27,16 +27,16 @@ line_set L laws line done l h = h
 line_set L laws line (refused r) l h = laws.line_spelled line r l h
 
 -- the next statement
-judges : {S : Sorts} (L : Language S) (laws : Laws L) (w : Front S) (old b : S.Batch) (line : ℕ) (s : S.Statement) (room : Room S) (v' : MessageNetwork S) (meaning : Meaning S) (act : Act S) (room' : Room S) (s' : Beside S) →
+checks : {S : Sorts} (L : Language S) (laws : Laws L) (w : Front S) (old b : S.Batch) (line : ℕ) (s : S.Statement) (room : Room S) (v' : MessageNetwork S) (meaning : Meaning S) (act : Act S) (room' : Room S) (s' : Beside S) →
     IsLine L line → L.meaning room.db room.shelf w.ranges s ≡ meaning →
     IsDue L (spread (away w (at_two old)) room) → IsSpelled L (spread (away w (at_two old)) room) → L.batch_runs room.db room.shelf w.ranges old ≡ after_meaning L room.db room.shelf w.ranges line b meaning →
-    Judges L room w.ranges line b meaning act → room' ≡ room →
+    Checks L room w.ranges line b meaning act → room' ≡ room →
     s' ≡ acted (beside (spread (away w (at_two old)) room) second) act [] [] room' → v' ≡ put (spread (away w (at_two old)) room) second s' →
     Keeps L (away w (at_two old)) room v'
-judges L laws w old b line s room v' (names ranges') act room' s' il em d sp e j e2 e3 e4 =
+checks L laws w old b line s room v' (names ranges') act room' s' il em d sp e j e2 e3 e4 =
     worked L (away w (at_two old)) room second (turns_to (parsing ranges' b)) act room room' s' v' j e2 e3 e4
     (record { phase = away (with w [] ranges') (at_two b); room = room; is = simp (append-nil); routed = λ h. tt; fits = λ h. tt; due = simp append-nil (simp append-nil at d); spelled = record { a = tt; b = tt; c = tt; d = tt; e = tt; f = coming_more L w.coming [] [] sp.f tt; first_left = tt; last_right = tt; line = tt }; same = rw e (simp append-nil) })
-judges L laws w old b line s room v' (objects r) act room' s' il em d sp e j e2 e3 e4 =
+checks L laws w old b line s room v' (objects r) act room' s' il em d sp e j e2 e3 e4 =
     worked L (away w (at_two old)) room second (says (parsing w.ranges b) (said (replied (refused (L.lined line r))) ∷ [])) act room room' s' v' j e2 e3 e4
     (record {
       phase = away (with w (replied (refused (L.lined line r)) ∷ []) w.ranges) (at_two b);
@@ -48,7 +48,7 @@ judges L laws w old b line s room v' (objects r) act room' s' il em d sp e j e2 
       spelled = record { a = tt; b = tt; c = tt; d = tt; e = tt; f = coming_more L w.coming (replied (refused (L.lined line r)) ∷ []) [] sp.f (line_set L laws line (refused r) il (laws.objection_spelled room.db room.shelf w.ranges s r em), tt); first_left = tt; last_right = tt; line = tt };
       same = rw e (simp append-nil (rw (say_more L room.out (begun (front_mode w.monitor w.open_head w.prints)) (kept (front_mode w.monitor w.open_head w.prints)) (map said w.coming) (said (replied (refused (L.lined line r))) ∷ []) _ (opens_reply L (refused (L.lined line r)) [])) (simp (append-nil, append_assoc))));
     })
-judges L laws w old b line s room v' (runs outcome) act room' s' il em d sp e (t, fits, e1, j) e2 e3 e4 =
+checks L laws w old b line s room v' (runs outcome) act room' s' il em d sp e (t, fits, e1, j) e2 e3 e4 =
     worked L (away w (at_two old)) room second (hands (passing2 w.ranges line b) (cargo (tree t))) act room room' s' v' j e2 e3 e4
     (record { phase = away (with w [] w.ranges) (in_b line b t); room = room; is = simp (append-nil); routed = λ h. tt; fits = λ h. fits; due = simp append-nil (simp append-nil at d); spelled = record { a = tt; b = (laws.tree_spelled t room.db fits, tt); c = tt; d = tt; e = tt; f = coming_more L w.coming [] [] sp.f tt; first_left = tt; last_right = tt; line = il }; same = rw (e, e1) (simp (append-nil, append_assoc)) })
 
@@ -82,7 +82,7 @@ parses L laws w old room v' (bad r) act room' s' en d sp e j e2 e3 e4 =
       same = rw e (simp append-nil (rw (say_more L room.out (begun (front_mode w.monitor w.open_head w.prints)) (kept (front_mode w.monitor w.open_head w.prints)) (map said w.coming) (said (replied (refused r)) ∷ end ∷ []) _ (opens_reply L (refused r) (end ∷ []))) (simp (append-nil, append_assoc))));
     })
 parses L laws w old room v' (found s line b) act room' s' en d sp e j e2 e3 e4 =
-    judges L laws w old b line s room v' (L.meaning room.db room.shelf w.ranges s) act room' s' (record { batch = old; statement = s; later = b; is = en }) refl d sp e j e2 e3 e4
+    checks L laws w old b line s room v' (L.meaning room.db room.shelf w.ranges s) act room' s' (record { batch = old; statement = s; later = b; is = en }) refl d sp e j e2 e3 e4
 
 -- stage 2 passes on what comes from the right
 passes : {S : Sorts} (L : Language S) (w : Front S) (line : ℕ) (b : S.Batch) (ss : List (Shown S)) (room : Room S) (v' : MessageNetwork S) →

@@ -17,8 +17,8 @@ use Rattle.network_meaning.specs.Spelled.{IsLine, IsSpelled}
 use Rattle.network_meaning.specs.Orderly.{Phase, Place, Front, front_mode, spread, RoutedPhase, Phase.reads, Phase.closes, Phase.sends, Phase.away, Phase.quits_a, Phase.quits_b, Phase.quits_c, Phase.over}
 use Rattle.network_meaning.specs.Orderly.{Place.at_two, Place.in_b, Place.at_three, Place.in_c, Place.at_four, Place.in_d, Place.in_e_tables, Place.in_e_reply, Place.in_f}
 use Rattle.network_meaning.specs.WorkLeft.{frames_in}
-use Rattle.network_meaning.specs.WorkShape.{RefusalShape, JudgeShape, ParseShape, ProcessShape, CarryShape, ReadShape, SendsSpelled, WorkShape, WorksInShape}
-use Rattle.network_meaning.specs.WorkShape.{JudgeShape.names, JudgeShape.objects, JudgeShape.runs, AnswerShape.tables, AnswerShape.refuses as answer_refused, UpdateShape.changes, UpdateShape.refuses as update_refused, UtilityShape.does, UtilityShape.refuses as utility_refused}
+use Rattle.network_meaning.specs.WorkShape.{RefusalShape, CheckShape, ParseShape, ProcessShape, CarryShape, ReadShape, SendsSpelled, WorkShape, WorksInShape}
+use Rattle.network_meaning.specs.WorkShape.{CheckShape.names, CheckShape.objects, CheckShape.runs, AnswerShape.tables, AnswerShape.refuses as answer_refused, UpdateShape.changes, UpdateShape.refuses as update_refused, UtilityShape.does, UtilityShape.refuses as utility_refused}
 use Rattle.network_meaning.proofs.Due.{reply_anywhere, tables_anywhere, end_anywhere, said_due}
 use Rattle.network_meaning.proofs.First.{step_keeps}
 use Rattle.network_meaning.proofs.Frames.{coming_more, each-append}
@@ -52,21 +52,21 @@ read_leads {S} L laws m ranges room act h = go h.event h.spelled h.is
 
 -- ---- stage 2
 
-judge_leads : {S : Sorts} (L : Language S) (w : Front S) (old b : S.Batch) (line : ℕ) (room : Room S) (act : Act S) → IsLine L line → IsDue L (spread (away w (at_two old)) room) → IsSpelled L (spread (away w (at_two old)) room) →
-    JudgeShape L w.ranges line b act → Leads L (away w (at_two old)) (behind (away w (at_two old)) room second act)
-judge_leads L w old b line room act il d sp (names ranges' e) =
+check_leads : {S : Sorts} (L : Language S) (w : Front S) (old b : S.Batch) (line : ℕ) (room : Room S) (act : Act S) → IsLine L line → IsDue L (spread (away w (at_two old)) room) → IsSpelled L (spread (away w (at_two old)) room) →
+    CheckShape L w.ranges line b act → Leads L (away w (at_two old)) (behind (away w (at_two old)) room second act)
+check_leads L w old b line room act il d sp (names ranges' e) =
     rw e (record { phase = away (with w [] ranges') (at_two b); room = room; is = simp append-nil; routed = λ h. tt; due = simp append-nil (simp append-nil at d); spelled = record { a = tt; b = tt; c = tt; d = tt; e = tt; f = coming_more L w.coming [] [] sp.f tt; first_left = tt; last_right = tt; line = tt } })
-judge_leads L w old b line room act il d sp (objects r told e) =
+check_leads L w old b line room act il d sp (objects r known e) =
     rw e (record {
       phase = away (with w (replied (refused (L.lined line r)) ∷ []) w.ranges) (at_two b);
       room = room;
       is = simp (append-nil, map-append);
       routed = λ h. tt;
       due = simp (append-nil, map-append) (said_due L w (said (replied (refused (L.lined line r))) ∷ []) d (reply_anywhere L (refused (L.lined line r)) [] tt));
-      spelled = record { a = tt; b = tt; c = tt; d = tt; e = tt; f = coming_more L w.coming (replied (refused (L.lined line r)) ∷ []) [] sp.f (told, tt); first_left = tt; last_right = tt; line = tt };
+      spelled = record { a = tt; b = tt; c = tt; d = tt; e = tt; f = coming_more L w.coming (replied (refused (L.lined line r)) ∷ []) [] sp.f (known, tt); first_left = tt; last_right = tt; line = tt };
     })
-judge_leads L w old b line room act il d sp (runs t told e) =
-    rw e (record { phase = away (with w [] w.ranges) (in_b line b t); room = room; is = simp append-nil; routed = λ h. tt; due = simp append-nil (simp append-nil at d); spelled = record { a = tt; b = (told, tt); c = tt; d = tt; e = tt; f = coming_more L w.coming [] [] sp.f tt; first_left = tt; last_right = tt; line = il } })
+check_leads L w old b line room act il d sp (runs t known e) =
+    rw e (record { phase = away (with w [] w.ranges) (in_b line b t); room = room; is = simp append-nil; routed = λ h. tt; due = simp append-nil (simp append-nil at d); spelled = record { a = tt; b = (known, tt); c = tt; d = tt; e = tt; f = coming_more L w.coming [] [] sp.f tt; first_left = tt; last_right = tt; line = il } })
 
 parse_leads : {S : Sorts} (L : Language S) (laws : Laws L) (w : Front S) (old : S.Batch) (room : Room S) (next : Next S) (act : Act S) → L.next old ≡ next → IsDue L (spread (away w (at_two old)) room) → IsSpelled L (spread (away w (at_two old)) room) →
     ParseShape L w.ranges next act → Leads L (away w (at_two old)) (behind (away w (at_two old)) room second act)
@@ -88,7 +88,7 @@ parse_leads L laws w old room (bad r) act en d sp e =
       due = simp (append-nil, map-append, append_assoc) (said_due L w (said (replied (refused r)) ∷ end ∷ []) d (reply_anywhere L (refused r) (end ∷ []) tt));
       spelled = record { a = tt; b = tt; c = tt; d = tt; e = tt; f = coming_more L w.coming (replied (refused r) ∷ []) (end ∷ []) sp.f (laws.syntax_spelled old r en, (laws.end_spelled, tt)); first_left = tt; last_right = tt; line = tt };
     })
-parse_leads L laws w old room (found s line b) act en d sp h = judge_leads L w old b line room act (record { batch = old; statement = s; later = b; is = en }) d sp h
+parse_leads L laws w old room (found s line b) act en d sp h = check_leads L w old b line room act (record { batch = old; statement = s; later = b; is = en }) d sp h
 
 -- ---- stage 3
 
@@ -99,21 +99,21 @@ third_refused L w line b t room act d sp h =
 
 process_leads : {S : Sorts} (L : Language S) (laws : Laws L) (w : Front S) (line : ℕ) (b : S.Batch) (t : S.Tree) (room : Room S) (kind : Kind) (act : Act S) → L.kind t ≡ kind → IsDue L (spread (away w (at_three line b t)) room) → IsSpelled L (spread (away w (at_three line b t)) room) →
     ProcessShape L t kind act → Leads L (away w (at_three line b t)) (behind (away w (at_three line b t)) room third act)
-process_leads {S} L laws w line b t room answer act ek d sp (tables ts tops fit told e) =
+process_leads {S} L laws w line b t room answer act ek d sp (tables ts tops fit known e) =
     rw e (record {
       phase = away w (in_e_tables line b (all_shown ts));
       room = room;
       is = refl;
       routed = λ h. tt;
       due = simp append-nil (rw (lines_kept L line (all_shown ts) (end ∷ [])) (said_due L w (map (λ (s : Shown S). said (shown s)) (all_shown ts) ++ end ∷ []) d (tables_anywhere L ts fit)));
-      spelled = record { a = tt; b = tt; c = tt; d = tt; e = each-append L (map (λ (s : Shown S). said (shown s)) (all_shown ts)) (end ∷ []) told (laws.end_spelled, tt); f = sp.f; first_left = tt; last_right = tt; line = sp.line };
+      spelled = record { a = tt; b = tt; c = tt; d = tt; e = each-append L (map (λ (s : Shown S). said (shown s)) (all_shown ts)) (end ∷ []) known (laws.end_spelled, tt); f = sp.f; first_left = tt; last_right = tt; line = sp.line };
     })
 process_leads L laws w line b t room answer act ek d sp (answer_refused h) = third_refused L w line b t room act d sp h
-process_leads L laws w line b t room update act ek d sp (changes c told e) =
-    rw e (record { phase = away w (in_c line b (change c)); room = room; is = refl; routed = λ h. refl; due = d; spelled = record { a = tt; b = tt; c = (told, tt); d = tt; e = tt; f = sp.f; first_left = tt; last_right = tt; line = sp.line } })
+process_leads L laws w line b t room update act ek d sp (changes c known e) =
+    rw e (record { phase = away w (in_c line b (change c)); room = room; is = refl; routed = λ h. refl; due = d; spelled = record { a = tt; b = tt; c = (known, tt); d = tt; e = tt; f = sp.f; first_left = tt; last_right = tt; line = sp.line } })
 process_leads L laws w line b t room update act ek d sp (update_refused h) = third_refused L w line b t room act d sp h
-process_leads L laws w line b t room utility act ek d sp (told, e) =
-    rw e (record { phase = away w (in_c line b (tree t)); room = room; is = refl; routed = λ h. rw ek refl; due = d; spelled = record { a = tt; b = tt; c = (told, tt); d = tt; e = tt; f = sp.f; first_left = tt; last_right = tt; line = sp.line } })
+process_leads L laws w line b t room utility act ek d sp (known, e) =
+    rw e (record { phase = away w (in_c line b (tree t)); room = room; is = refl; routed = λ h. rw ek refl; due = d; spelled = record { a = tt; b = tt; c = (known, tt); d = tt; e = tt; f = sp.f; first_left = tt; last_right = tt; line = sp.line } })
 
 -- ---- stage 4
 

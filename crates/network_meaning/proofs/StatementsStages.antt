@@ -8,7 +8,7 @@ use Rattle.network_meaning.specs.Sorts.{Reply.done, Reply.refused, Said.shown, S
 use Rattle.network_meaning.specs.Ending.{BatchEnds, KeepsEnd, ScriptEnds}
 use Rattle.network_meaning.specs.Language.{Language, db_after, shelf_after, after_next, after_meaning, statements_after_next, statements_after_meaning, tables_bytes}
 use Rattle.network_meaning.specs.Laws.{Laws}
-use Rattle.network_meaning.specs.LocalSteps.{Mode.idle3, Mode.working3, Mode.working4, Mode.passing3, Mode.idle4, Mode.idle2, Mode.parsing, Mode.passing2, Act, Room, Processes, CarriesOut, Judges, Parses, turns_to, says, hands, outcome_of, all_shown, set_line, goes_to_four}
+use Rattle.network_meaning.specs.LocalSteps.{Mode.idle3, Mode.working3, Mode.working4, Mode.passing3, Mode.idle4, Mode.idle2, Mode.parsing, Mode.passing2, Act, Room, Processes, CarriesOut, Checks, Parses, turns_to, says, hands, outcome_of, all_shown, set_line, goes_to_four}
 use Rattle.network_meaning.specs.MessageNetwork.{MessageNetwork, Beside, StageNumber, StageNumber.second, StageNumber.third, StageNumber.fourth, beside, put, acted, MessageStep}
 use Rattle.network_meaning.specs.Held.{printed, held, kept, begun, rest}
 use Rattle.network_meaning.specs.Statements.{statements_left, Finishes}
@@ -68,19 +68,19 @@ made_ends : {S : Sorts} (L : Language S) (db db' : S.Db) (shelf shelf' : S.Shelf
     BatchEnds L db shelf ranges (b ∷ []) m script e → BatchEnds L db' shelf' ranges (b ∷ []) m script e
 made_ends L db db' shelf shelf' ranges b m script e k l h = rw (k, l) h
 
-judges : {S : Sorts} (L : Language S) (w : Front S) (old b : S.Batch) (line : ℕ) (room : Room S) (v' : MessageNetwork S) (meaning : Meaning S) (act : Act S) (room' : Room S) (s' : Beside S) →
+checks : {S : Sorts} (L : Language S) (w : Front S) (old b : S.Batch) (line : ℕ) (room : Room S) (v' : MessageNetwork S) (meaning : Meaning S) (act : Act S) (room' : Room S) (s' : Beside S) →
     L.batch_runs room.db room.shelf w.ranges old ≡ after_meaning L room.db room.shelf w.ranges line b meaning →
     L.batch_statements room.db room.shelf w.ranges old ≡ statements_after_meaning L room.db room.shelf w.ranges line b meaning →
-    Judges L room w.ranges line b meaning act → room' ≡ room →
+    Checks L room w.ranges line b meaning act → room' ≡ room →
     s' ≡ acted (beside (spread (away w (at_two old)) room) second) act [] [] room' → v' ≡ put (spread (away w (at_two old)) room) second s' →
     OneStep L (spread (away w (at_two old)) room) v'
-judges L w old b line room v' (names ranges') act room' s' e es j e2 e3 e4 =
+checks L w old b line room v' (names ranges') act room' s' e es j e2 e3 e4 =
     ran_by L second _ (turns_to (parsing ranges' b)) act [] [] room room' s' v' j e2 e3 e4
     (one L _ _ [] (rw (e, es) refl) (simp append-nil) refl (λ x h. batch_ends L _ _ _ room.script x e h))
-judges L w old b line room v' (objects r) act room' s' e es j e2 e3 e4 =
+checks L w old b line room v' (objects r) act room' s' e es j e2 e3 e4 =
     ran_by L second _ (says (parsing w.ranges b) (said (replied (refused (L.lined line r))) ∷ [])) act [] [] room room' s' v' j e2 e3 e4
     (one L _ _ (L.refusal_bytes (L.lined line r)) (rw (e, es) refl) (simp append-nil (reply_more L w (refused (L.lined line r)) _ (append-nil _))) refl (λ x h. batch_ends L _ _ _ room.script x e h))
-judges L w old b line room v' (runs outcome) act room' s' e es (t, fits, e1, j) e2 e3 e4 =
+checks L w old b line room v' (runs outcome) act room' s' e es (t, fits, e1, j) e2 e3 e4 =
     ran_by L second _ (hands (passing2 w.ranges line b) (cargo (tree t))) act [] [] room room' s' v' j e2 e3 e4 (none L _ _ (rw (e, es, e1) refl) refl (λ x h. outcome_ends L room.db room.shelf w.ranges b _ room.script _ _ x (sym e1) (batch_ends L _ _ _ room.script x e h)))
 
 parses : {S : Sorts} (L : Language S) (w : Front S) (old : S.Batch) (room : Room S) (v' : MessageNetwork S) (next : Next S) (act : Act S) (room' : Room S) (s' : Beside S) →
@@ -94,7 +94,7 @@ parses L w old room v' no_more act room' s' e es j e2 e3 e4 =
 parses L w old room v' (bad r) act room' s' e es j e2 e3 e4 =
     ran_by L second _ (says (idle2 w.ranges) (said (replied (refused r)) ∷ end ∷ [])) act [] [] room room' s' v' j e2 e3 e4 (none L _ _ (rw (e, es) refl) refl (λ x h. batch_ends L _ _ _ room.script x e h))
 parses L w old room v' (found s line b) act room' s' e es j e2 e3 e4 =
-    judges L w old b line room v' (L.meaning room.db room.shelf w.ranges s) act room' s' e es j e2 e3 e4
+    checks L w old b line room v' (L.meaning room.db room.shelf w.ranges s) act room' s' e es j e2 e3 e4
 
 passes : {S : Sorts} (L : Language S) (w : Front S) (line : ℕ) (b : S.Batch) (ss : List (Shown S)) (room : Room S) (v' : MessageNetwork S) →
     MessageStep L second (spread (away w (in_e_tables line b ss)) room) v' → OneStep L (spread (away w (in_e_tables line b ss)) room) v'

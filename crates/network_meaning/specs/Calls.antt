@@ -46,40 +46,40 @@ abbrev pub Given : {S : Sorts} → LocalState S → Frame → LocalState S → T
 Given s f s' = GivenAs s f (want s) s'
 
 -- what is known of a room, part by part: the database, the shelf, the rest of the script, and the bytes that were written
-pub record Told (S : Sorts) : Type 0 where
+pub record Known (S : Sorts) : Type 0 where
   pub db : Option S.Db
   pub shelf : Option S.Shelf
   pub script : Option S.Script
   pub out : Option (List ℕ)
 
--- a room is told: the database, the shelf and the script are known, and they are those of this room. What was written needn't be known
-pub record Tells {S : Sorts} (told : Told S) (room : Room S) : Type 0 where
-  pub db : told.db ≡ Some room.db
-  pub shelf : told.shelf ≡ Some room.shelf
-  pub script : told.script ≡ Some room.script
+-- a room is known: the database, the shelf and the script are known, and they are those of this room. What was written needn't be known
+pub record Knows {S : Sorts} (known : Known S) (room : Room S) : Type 0 where
+  pub db : known.db ≡ Some room.db
+  pub shelf : known.shelf ≡ Some room.shelf
+  pub script : known.script ≡ Some room.script
 
 -- from the first room to the second bytes were written, and where it is known what was written, it grew by them
-abbrev pub Wrote : {S : Sorts} → Told S → Told S → Room S → Room S → Type 0
-Wrote told told' room room' = (bytes : List ℕ) × (room'.out ≡ room.out ++ bytes) × Appends told.out told'.out bytes
+abbrev pub Wrote : {S : Sorts} → Known S → Known S → Room S → Room S → Type 0
+Wrote known known' room room' = (bytes : List ℕ) × (room'.out ≡ room.out ++ bytes) × Appends known.out known'.out bytes
 
 -- where the database and the shelf are known, what is worked on at this mode is fit
-abbrev pub FitWhereTold : {S : Sorts} → Language S → Mode S → Told S → Type 0
-FitWhereTold {S} L mode told = (db : S.Db) (shelf : S.Shelf) → told.db ≡ Some db → told.shelf ≡ Some shelf → FitWork L mode db
+abbrev pub FitWhereKnown : {S : Sorts} → Language S → Mode S → Known S → Type 0
+FitWhereKnown {S} L mode known = (db : S.Db) (shelf : S.Shelf) → known.db ≡ Some db → known.shelf ≡ Some shelf → FitWork L mode db
 
--- the act is the network's in this room: the room is told again, as the work leaves it
-pub record WorkedIn {S : Sorts} (L : Language S) (mode : Mode S) (act : Act S) (room : Room S) (before after : Told S) : Type 0 where
+-- the act is the network's in this room: the room is again known, as the work leaves it
+pub record WorkedIn {S : Sorts} (L : Language S) (mode : Mode S) (act : Act S) (room : Room S) (before after : Known S) : Type 0 where
   pub room' : Room S
-  pub told : Tells after room'
+  pub known : Knows after room'
   pub wrote : Wrote before after room room'
   pub works : Works L mode room act room'
 
--- a stage has worked: whatever is told, its act has the shape of such a piece of work; where the database and the shelf are known, what was worked on is fit; and where the room is told, it is the network's act there
-pub record WorkDone {S : Sorts} (L : Language S) (s s' : LocalState S) (before after : Told S) : Type 0 where
+-- a stage has worked: whatever is known, its act has the shape of such a piece of work; where the database and the shelf are known, what was worked on is fit; and where the room is known, it is the network's act there
+pub record WorkDone {S : Sorts} (L : Language S) (s s' : LocalState S) (before after : Known S) : Type 0 where
   pub act : Act S
   pub is : s' ≡ done_act L s act s.got_left s.got_right
   pub shape : WorkShape L s.mode act
-  pub fit : FitWhereTold L s.mode before
-  pub exact : (room : Room S) → Tells before room → WorkedIn L s.mode act room before after
+  pub fit : FitWhereKnown L s.mode before
+  pub exact : (room : Room S) → Knows before room → WorkedIn L s.mode act room before after
 
 -- the network but for the room
 pub record Shape (S : Sorts) : Type 0 where
@@ -101,7 +101,7 @@ join s room = record { one = s.one; two = s.two; three = s.three; four = s.four;
 -- the network but for the room, and what is known of the room
 pub record Seen (S : Sorts) : Type 0 where
   pub shape : Shape S
-  pub told : Told S
+  pub known : Known S
 
 -- where a stage wants to work, what it is to work on is fit
 abbrev pub FitWant : {S : Sorts} → Language S → Between S → Want → Type 0
@@ -113,19 +113,19 @@ abbrev pub FitStep : {S : Sorts} → Language S → StageNumber → Network S �
 FitStep L k n true = ⊤
 FitStep L k n false = FitWant L (between n k) (want (between n k).stage)
 
--- step k was one of the network in this room, and the room is told again, as the step leaves it
+-- step k was one of the network in this room, and the room is again known, as the step leaves it
 pub record MovesIn {S : Sorts} (L : Language S) (k : StageNumber) (blocked : Bool) (old new : Seen S) (room : Room S) : Type 0 where
   pub room' : Room S
-  pub told : Tells new.told room'
-  pub wrote : Wrote old.told new.told room room'
+  pub known : Knows new.known room'
+  pub wrote : Wrote old.known new.known room room'
   pub step : StepsUnlessBlocked L k (join old.shape room) (join new.shape room') blocked
 
--- step k was blocked or not. Whatever the room is, the stage took, gave, or did work of its shape; where the database and the shelf are known, what it worked on is fit; and where the room is told, this was a step of the network there
+-- step k was blocked or not. Whatever the room is, the stage took, gave, or did work of its shape; where the database and the shelf are known, what it worked on is fit; and where the room is known, this was a step of the network there
 pub record Moves {S : Sorts} (L : Language S) (capacity : ℕ) (k : StageNumber) (blocked : Bool) (old new : Seen S) : Type 0 where
   pub is : (room : Room S) → is_stuck capacity k (join old.shape room) ≡ blocked
   pub shape : (room : Room S) → StepsUnlessBlockedBy (WorksInShape L) L k (join old.shape room) (join new.shape room) blocked
-  pub fit : (room : Room S) → old.told.db ≡ Some room.db → old.told.shelf ≡ Some room.shelf → FitStep L k (join old.shape room) blocked
-  pub exact : (room : Room S) → Tells old.told room → MovesIn L k blocked old new room
+  pub fit : (room : Room S) → old.known.db ≡ Some room.db → old.known.shelf ≡ Some room.shelf → FitStep L k (join old.shape room) blocked
+  pub exact : (room : Room S) → Knows old.known room → MovesIn L k blocked old new room
 
 -- the stage with this number, 1 to 4
 abbrev pub stage_number : ℕ → StageNumber
@@ -136,15 +136,15 @@ abbrev pub RunsTurns : {S : Sorts} → Language S → ℕ → List ℕ → Seen 
 RunsTurns L capacity [] old new = new ≡ old
 RunsTurns {S} L capacity (k ∷ ks) old new = (mid : Seen S) × (blocked : Bool) × Moves L capacity (stage_number k) blocked old mid × RunsTurns L capacity ks mid new
 
--- from an orderly network with a room that is told: it is orderly and told again, the bytes in all are the same, what was written grew as from that room to this, and the session ends as it was to end
+-- from an orderly network with a room that is known: it is orderly and known again, the bytes in all are the same, what was written grew as from that room to this, and the session ends as it was to end
 pub record KeptNow {S : Sorts} (L : Language S) (r : Room S) (old new : Seen S) : Type 0 where
   pub room : Room S
-  pub told : Tells new.told room
-  pub wrote : Wrote old.told new.told r room
+  pub known : Knows new.known room
+  pub wrote : Wrote old.known new.known r room
   pub orderly : Orderly L (join new.shape room)
   pub same : bytes_in_all L (join new.shape room) ≡ bytes_in_all L (join old.shape r)
   pub ends : KeepsEnd L (as_messages L (join old.shape r)) (as_messages L (join new.shape room))
 
--- from each orderly network with a room that is told it is kept so
+-- from each orderly network with a room that is known it is kept so
 abbrev pub KeepsAll : {S : Sorts} → Language S → Seen S → Seen S → Type 0
-KeepsAll {S} L old new = (r : Room S) → Tells old.told r → Orderly L (join old.shape r) → KeptNow L r old new
+KeepsAll {S} L old new = (r : Room S) → Knows old.known r → Orderly L (join old.shape r) → KeptNow L r old new

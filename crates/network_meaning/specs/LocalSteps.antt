@@ -170,16 +170,16 @@ IsFit L (tree t) db = L.Fits t db
 IsFit L (change c) db = L.IsLawful c db
 
 -- stage 2, after the meaning of the next statement: the tree is any fit one with that meaning
-abbrev pub Judges : {S : Sorts} → Language S → Room S → S.Ranges → ℕ → S.Batch → Meaning S → Act S → Type 0
-Judges L room ranges line b (names ranges') act = act ≡ turns_to (parsing ranges' b)
-Judges L room ranges line b (objects r) act = act ≡ says (parsing ranges b) (said (replied (refused (L.lined line r))) ∷ [])
-Judges {S} L room ranges line b (runs outcome) act = (t : S.Tree) × L.Fits t room.db × (L.outcome t room.db room.shelf ≡ outcome) × (act ≡ hands (passing2 ranges line b) (cargo (tree t)))
+abbrev pub Checks : {S : Sorts} → Language S → Room S → S.Ranges → ℕ → S.Batch → Meaning S → Act S → Type 0
+Checks L room ranges line b (names ranges') act = act ≡ turns_to (parsing ranges' b)
+Checks L room ranges line b (objects r) act = act ≡ says (parsing ranges b) (said (replied (refused (L.lined line r))) ∷ [])
+Checks {S} L room ranges line b (runs outcome) act = (t : S.Tree) × L.Fits t room.db × (L.outcome t room.db room.shelf ≡ outcome) × (act ≡ hands (passing2 ranges line b) (cargo (tree t)))
 
--- stage 2, at the next statement: the end of the batch, a syntax refusal, or a statement that is judged
+-- stage 2, at the next statement: the end of the batch, a syntax refusal, or a statement that is checked
 abbrev pub Parses : {S : Sorts} → Language S → Room S → S.Ranges → Next S → Act S → Type 0
 Parses L room ranges no_more act = act ≡ says (idle2 ranges) (end ∷ [])
 Parses L room ranges (bad r) act = act ≡ says (idle2 ranges) (said (replied (refused r)) ∷ end ∷ [])
-Parses L room ranges (found s line b) act = Judges L room ranges line b (L.meaning room.db room.shelf ranges s) act
+Parses L room ranges (found s line b) act = Checks L room ranges line b (L.meaning room.db room.shelf ranges s) act
 
 -- stage 3, by the kind of the tree and what it comes to
 abbrev pub Processes : {S : Sorts} → Language S → Room S → S.Tree → Kind → Outcome S → Act S → Type 0

@@ -1,6 +1,6 @@
 -- What a list of turns leads to.
 use Rattle.std.specs.Prelude.{◌≡◌, ◌⊎◌, ◌<◌, ◌≤◌, ℕ, List, [], ◌∷◌}
-use Rattle.network_meaning.specs.Calls.{Seen, Tells, Wrote, join, stage_number}
+use Rattle.network_meaning.specs.Calls.{Seen, Knows, Wrote, join, stage_number}
 use Rattle.network_meaning.specs.Ending.{Ends, KeepsEnd}
 use Rattle.network_meaning.specs.Going.{AllEnded, SomeGoes}
 use Rattle.network_meaning.specs.Language.{HasStopped, Language}
@@ -21,13 +21,13 @@ Has k (j ∷ js) = (stage_number j ≡ k) ⊎ Has k js
 abbrev pub HasAll : List ℕ → Type 0
 HasAll turns = (k : StageNumber) → Has k turns
 
--- from an orderly network whose room is told, turns have led to one that is orderly and told again: the bytes in all are the same, what was written grew, a front of the statements was finished, and the session ends as it was to end;
+-- from an orderly network whose room is known, turns have led to one that is orderly and told again: the bytes in all are the same, what was written grew, a front of the statements was finished, and the session ends as it was to end;
 -- the turn is in one place, and some stage goes on unless all have ended; no more work is left, and less where each stage had a turn and not all had ended before;
 -- where all have ended, all bytes are written, no statement is left, and the session has come to that end
 pub record LeadsTo {S : Sorts} (L : Language S) (W : Work L) (capacity : ℕ) (turns : List ℕ) (r : Room S) (old new : Seen S) : Type 0 where
   pub room : Room S
-  pub told : Tells new.told room
-  pub wrote : Wrote old.told new.told r room
+  pub known : Knows new.known room
+  pub wrote : Wrote old.known new.known r room
   pub orderly : Orderly L (join new.shape room)
   pub same : bytes_in_all L (join new.shape room) ≡ bytes_in_all L (join old.shape r)
   pub finished : FinishesFront L (as_messages L (join old.shape r)) (as_messages L (join new.shape room))
@@ -40,6 +40,6 @@ pub record LeadsTo {S : Sorts} (L : Language S) (W : Work L) (capacity : ℕ) (t
   pub none_left : AllEnded (join new.shape room) → statements_left L (as_messages L (join new.shape room)) ≡ []
   pub stopped : AllEnded (join new.shape room) → (e : SessionEnd S) → Ends L (as_messages L (join old.shape r)) e → HasStopped L room.db room.shelf room.script e
 
--- from each orderly network whose room is told, turns lead on
+-- from each orderly network whose room is known, turns lead on
 abbrev pub LeadsOn : {S : Sorts} (L : Language S) → Work L → ℕ → List ℕ → Seen S → Seen S → Type 0
-LeadsOn {S} L W capacity turns old new = (r : Room S) → Tells old.told r → Orderly L (join old.shape r) → LeadsTo L W capacity turns r old new
+LeadsOn {S} L W capacity turns old new = (r : Room S) → Knows old.known r → Orderly L (join old.shape r) → LeadsTo L W capacity turns r old new

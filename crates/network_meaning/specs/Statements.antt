@@ -7,7 +7,7 @@ use Rattle.network_meaning.specs.Language.{Language, reply_bytes, db_after, shel
 use Rattle.network_meaning.specs.LocalSteps.{outcome_of, Room}
 use Rattle.network_meaning.specs.MessageNetwork.{MessageNetwork}
 use Rattle.network_meaning.specs.Network.{as_messages, Orderly}
-use Rattle.network_meaning.specs.Calls.{join, Seen, Tells, Wrote}
+use Rattle.network_meaning.specs.Calls.{join, Seen, Knows, Wrote}
 use Rattle.network_meaning.specs.Held.{printed, held, begun, line_at, travels, batches, ranges_at, monitor_at, batch_rest, cargo_rest, rest}
 
 -- the statements of what is left of the script; none where stage 1 has ended
@@ -74,13 +74,13 @@ pub record FinishesFront {S : Sorts} (L : Language S) (old new : MessageNetwork 
   pub left : statements_left L old ≡ finished ++ statements_left L new
   pub database : new.room.db ≡ db_behind old.room.db finished
 
--- a room is told, and from the network with room r to the one with this room a front of the statements is finished
+-- a room is known, and from the network with room r to the one with this room a front of the statements is finished
 pub record FinishedNow {S : Sorts} (L : Language S) (r : Room S) (old new : Seen S) : Type 0 where
   pub room : Room S
-  pub told : Tells new.told room
-  pub wrote : Wrote old.told new.told r room
+  pub known : Knows new.known room
+  pub wrote : Wrote old.known new.known r room
   pub front : FinishesFront L (as_messages L (join old.shape r)) (as_messages L (join new.shape room))
 
--- from an orderly network with a room that is told: it is told again, and a front of the statements was finished
+-- from an orderly network with a room that is known: it is again known, and a front of the statements was finished
 abbrev pub FinishesInOrder : {S : Sorts} → Language S → Seen S → Seen S → Type 0
-FinishesInOrder {S} L old new = (r : Room S) → Tells old.told r → Orderly L (join old.shape r) → FinishedNow L r old new
+FinishesInOrder {S} L old new = (r : Room S) → Knows old.known r → Orderly L (join old.shape r) → FinishedNow L r old new

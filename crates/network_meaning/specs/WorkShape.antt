@@ -26,17 +26,17 @@ pub record RefusalShape {S : Sorts} (L : Language S) (mode : Mode S) (act : Act 
   pub spelled : Spelled L (said (replied (refused refusal)))
   pub is : act ≡ says mode (said (replied (refused refusal)) ∷ [])
 
--- stage 2 has judged a statement: it has new ranges or refuses with the statement's line, and parses on; or it hands a tree to the right, and passes on what comes back
-pub data JudgeShape {S : Sorts} (L : Language S) (ranges : S.Ranges) (line : ℕ) (b : S.Batch) (act : Act S) : Type 0 where
-  names : (ranges' : S.Ranges) → act ≡ turns_to (parsing ranges' b) → JudgeShape L ranges line b act
-  objects : (r : S.Refusal) → Spelled L (said (replied (refused (L.lined line r)))) → act ≡ says (parsing ranges b) (said (replied (refused (L.lined line r))) ∷ []) → JudgeShape L ranges line b act
-  runs : (t : S.Tree) → Spelled L (cargo (tree t)) → act ≡ hands (passing2 ranges line b) (cargo (tree t)) → JudgeShape L ranges line b act
+-- stage 2 has checked a statement: it has new ranges or refuses with the statement's line, and parses on; or it hands a tree to the right, and passes on what comes back
+pub data CheckShape {S : Sorts} (L : Language S) (ranges : S.Ranges) (line : ℕ) (b : S.Batch) (act : Act S) : Type 0 where
+  names : (ranges' : S.Ranges) → act ≡ turns_to (parsing ranges' b) → CheckShape L ranges line b act
+  objects : (r : S.Refusal) → Spelled L (said (replied (refused (L.lined line r)))) → act ≡ says (parsing ranges b) (said (replied (refused (L.lined line r))) ∷ []) → CheckShape L ranges line b act
+  runs : (t : S.Tree) → Spelled L (cargo (tree t)) → act ≡ hands (passing2 ranges line b) (cargo (tree t)) → CheckShape L ranges line b act
 
 -- stage 2, at what is next in its batch: at its end it gives the end, at what is no statement a refusal and the end
 abbrev pub ParseShape : {S : Sorts} → Language S → S.Ranges → Next S → Act S → Type 0
 ParseShape L ranges no_more act = act ≡ says (idle2 ranges) (end ∷ [])
 ParseShape L ranges (bad r) act = act ≡ says (idle2 ranges) (said (replied (refused r)) ∷ end ∷ [])
-ParseShape L ranges (found s line b) act = JudgeShape L ranges line b act
+ParseShape L ranges (found s line b) act = CheckShape L ranges line b act
 
 -- stage 3 at a query: the tables that it asks for, each its head and rows that fit it, and then the end; or a refusal
 pub data AnswerShape {S : Sorts} (L : Language S) (t : S.Tree) (act : Act S) : Type 0 where

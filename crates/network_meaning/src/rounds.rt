@@ -8,7 +8,7 @@ ghost use Rattle.network_meaning.specs.WorkLeft.{Work, WorkLaws};
 
 use crate::Spoken;
 
-/// What the turns of a list lead to, from an orderly network whose room is told: it is orderly and told
+/// What the turns of a list lead to, from an orderly network whose room is known: it is orderly and known
 /// again, with the same bytes in all; the turn is in one place, and some stage goes on until all have
 /// ended; the statements are finished in order; where each stage had a turn less work is left, unless all
 /// had ended; and where all have ended the bytes that were written are whole, and no statement is left.

@@ -34,7 +34,7 @@ pub fn order_needs_no_room<T: Spoken>()
 
 /// What the network works on what is fit has the shape of its mode: which mode follows, which messages are
 /// given in which order and to which side, each of them spelled, and rows that fit their heads. So a step
-/// of an orderly network is one in which work has its shape, in each room: where a room is told, nothing is
+/// of an orderly network is one in which work has its shape, in each room: where a room is known, nothing is
 /// asked beside the network's step. Work of its shape leaves the turn in one place, where it had it: at the
 /// stage, or in one of the messages that it gives.
 pub fn acts_have_their_shape<T: Spoken>()

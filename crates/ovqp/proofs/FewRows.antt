@@ -21,7 +21,7 @@ use Rattle.calculus.specs.Limits.{most_rows}
 use Rattle.calculus.specs.Database.{Db, Relation, View, Index, relation_at, view_at, is_relation, entries}
 use Rattle.calculus.specs.Catalogue.{relation_key, attribute_key, all_entries, relation_row, attribute_row, attribute_rows, catalogue_at}
 use Rattle.calculus.specs.Stored.{Kept, Viewed, range_at, kept_rows, rows_at}
-use Rattle.calculus.specs.IsDatabase.{IsDatabase, attrs_stand, index_stands}
+use Rattle.calculus.specs.IsDatabase.{IsDatabase, attrs_stand, valid_index}
 use Rattle.quel_meaning.proofs.DatabaseFacts.{found_passes, stood}
 use Rattle.quel_meaning.proofs.Each.{left, right, and}
 
@@ -92,7 +92,7 @@ unfolding has_few
 none_few info [] e h = ap (λ attrs. nat_le (length attrs) 49) (sym e)
 none_few info (a ∷ attrs) e h = absurd cc
 
-index_few : (db : Db) (x : Index) → index_stands db x ≡ true → has_few x.info ≡ true
+index_few : (db : Db) (x : Index) → valid_index db x ≡ true → has_few x.info ≡ true
 index_few db x h = none_few x.info x.info.attrs refl (left (not (is_any x.info.attrs)) _ (right (is_relation db x.base) _ (right (is_index x.info.spec) _ h)))
 
 all_few : (db : Db) → IsDatabase db → list_all has_few (entries db) ≡ true
@@ -103,7 +103,7 @@ all_few db is =
     (list_all-append has_few (map (λ v. v.info) db.views) (map (λ x. x.info) db.indexes)
     ∙ and (list_all has_few (map (λ v. v.info) db.views)) (list_all has_few (map (λ x. x.info) db.indexes))
     (list_all-map has_few (λ v. v.info) db.views ∙ weaker (λ v. attrs_stand v.info.attrs) (λ v. has_few v.info) (λ v. stood_few v.info) db.views is.view_attrs_stand)
-    (list_all-map has_few (λ x. x.info) db.indexes ∙ weaker (index_stands db) (λ x. has_few x.info) (index_few db) db.indexes is.indexes_stand))
+    (list_all-map has_few (λ x. x.info) db.indexes ∙ weaker (valid_index db) (λ x. has_few x.info) (index_few db) db.indexes is.indexes_stand))
 
 -- ---- the rows under a key
 

@@ -14,11 +14,11 @@ use Rattle.calculus.specs.Structures.{is_index}
 use Rattle.calculus.specs.Database.{Db, Relation, View, Index, relation_at, view_at, index_at, is_relation, entry_at}
 use Rattle.calculus.specs.Catalogue.{is_catalogue_name, relation_key, attribute_key, catalogue_at}
 use Rattle.calculus.specs.Stored.{Kept, Viewed, range_at, range_info, info_at, attrs_in, attrs_at}
-use Rattle.calculus.specs.IsDatabase.{IsDatabase, key_is_named, index_stands}
+use Rattle.calculus.specs.IsDatabase.{IsDatabase, key_is_named, valid_index}
 use Rattle.quel_meaning.proofs.DatabaseFacts.{found_passes}
 use Rattle.quel_meaning.proofs.Each.{left, right}
 use Rattle.quel_meaning.proofs.Keys.{find_passes, same_keys}
-use Rattle.am_traits.specs.Told.{known_at}
+use Rattle.base_trait.specs.Known.{known_at}
 
 -- the first of these, or else the second
 abbrev or_else : {X : Type 0} → Option X → Option X → Option X
@@ -58,7 +58,7 @@ unnamed : (attrs : List Attr) → not (is_any attrs) ≡ true → attrs ≡ []
 unnamed [] h = refl
 unnamed (a ∷ attrs) h = absurd (cc h)
 
-index_unnamed : (db : Db) (x : Index) → index_stands db x ≡ true → x.info.attrs ≡ []
+index_unnamed : (db : Db) (x : Index) → valid_index db x ≡ true → x.info.attrs ≡ []
 index_unnamed db x h = unnamed x.info.attrs (left (not (is_any x.info.attrs)) _ (right (is_relation db x.base) _ (right (is_index x.info.spec) _ h)))
 
 not_so : (b : Bool) → not b ≡ true → b ≡ false
@@ -119,4 +119,4 @@ unfolding known_at info_at range_at
 known_attrs db is key =
     ap (λ entry. attrs_in (elim entry [ Some info ↦ Some info | None ↦ option_map (λ r. r.info) (catalogue_at db key) ])) (entry_parts db key)
     ∙ by_place (relation_at db key) (view_at db key) (index_at db key) (catalogue_at db key)
-    (λ i e. (index_unnamed db i (found_passes (λ (x : Index). same_key x.info.key key) (index_stands db) db.indexes i is.indexes_stand e), index_uncatalogued db is key i e))
+    (λ i e. (index_unnamed db i (found_passes (λ (x : Index). same_key x.info.key key) (valid_index db) db.indexes i is.indexes_stand e), index_uncatalogued db is key i e))

@@ -9,7 +9,7 @@ ghost use Rattle.calculus.specs.QueryParts.{qual_of, query_aggregates, targets_o
 ghost use Rattle.calculus.specs.Targets.{rows_given, some_lacks};
 ghost use Rattle.calculus.specs.Term.{no_aggs};
 ghost use Rattle.calculus.specs.VariableRows.{rows_of};
-ghost use Rattle.calculus.specs.Who.{Free};
+ghost use Rattle.calculus.specs.Who.{Unrestricted};
 ghost use Rattle.quel_meaning.specs.FitQueries.{is_kept};
 ghost use Rattle.ovqp.specs.ProductCauses.{IsCause};
 ghost use Rattle.ovqp.specs.Causes.{HasCause};
@@ -20,7 +20,7 @@ use crate::fault::QueryFault;
 use crate::giving::give_of;
 use crate::scanning::given_by_scan;
 use crate::used::is_place_used;
-use am_traits::Base;
+use base_trait::Base;
 use calculus::{QQual, RelKey, Row, RowSet, Target};
 use std::alloc::Global;
 
@@ -36,7 +36,7 @@ fn given_once(alloc: Global, qual: &QQual, targets: &[Target]) -> Result<RowSet,
 }
 
 /// The answer of the query of one variable over `rel`, with this qualification and these targets, for
-/// nobody in particular and without aggregates: the set of the rows that the targets have for the rows
+/// whoever is unrestricted and without aggregates: the set of the rows that the targets have for the rows
 /// of which the qualification holds. It is `NoValue` exactly where a target has no value for such a row.
 /// The relation or catalogue is read once, whole, unless the query doesn't use the variable; a row of
 /// which the qualification doesn't hold is let go of at once, and the rows are sorted at the end.
@@ -49,13 +49,13 @@ pub fn one_variable<B: Base>(
 ) -> Result<RowSet, QueryFault>
     requires { (db : Db) → B.database base.old ≡ Some db → IsTrue (is_kept db rel.now) }
     ensures rows { (db : Db) → B.database base.old ≡ Some db → (q : Query) → IsQueryOf q rel.now qual.now targets.now
-        → IfOk result (λ set. set ≡ rows_given no_aggs q (assigned (rows_of db Free) q)) }
+        → IfOk result (λ set. set ≡ rows_given no_aggs q (assigned (rows_of db Unrestricted) q)) }
     ensures none_lacks { (db : Db) → B.database base.old ≡ Some db → (q : Query) → IsQueryOf q rel.now qual.now targets.now
-        → OnOk result (IsFalse (some_lacks no_aggs q (assigned (rows_of db Free) q))) }
+        → OnOk result (IsFalse (some_lacks no_aggs q (assigned (rows_of db Unrestricted) q))) }
     ensures plain { (db : Db) → B.database base.old ≡ Some db → (q : Query) → IsQueryOf q rel.now qual.now targets.now → query_aggregates q ≡ []
-        → IfOk result (λ set. set ≡ answer db Free q) }
+        → IfOk result (λ set. set ≡ answer db Unrestricted q) }
     ensures plain_lacks { (db : Db) → B.database base.old ≡ Some db → (q : Query) → IsQueryOf q rel.now qual.now targets.now → query_aggregates q ≡ []
-        → OnOk result (IsFalse (lacks db Free q)) }
+        → OnOk result (IsFalse (lacks db Unrestricted q)) }
     ensures kept { B.database base.new ≡ B.database base.old }
     ensures stays { (s : Db) → B.schema base.old ≡ Some s → B.schema base.new ≡ Some s }
     ensures asked { (b : B) → B.asked b base.old → B.asked b base.new }

@@ -5,7 +5,7 @@ ghost use Rattle.ovqp.specs.declared.fault.QueryFault.TheVariants.{Base as OfBas
 ghost use Rattle.ovqp.specs.Given.{given_fault};
 
 use crate::ProductFault;
-use am_traits::BaseFault;
+use base_trait::BaseFault;
 use calculus::{List, OutOfMemory, Row};
 
 /// Why a query gives no answer.

@@ -1,11 +1,11 @@
 //! The kinds of the attributes of what stands under a key.
 
 ghost use Rattle.std.specs.Prelude.{◌≡◌, map, Some, IfOk};
-ghost use Rattle.am_traits.specs.Causes.{HasCause};
+ghost use Rattle.base_trait.specs.Causes.{HasCause};
 ghost use Rattle.calculus.specs.Database.{Db};
 ghost use Rattle.calculus.specs.Stored.{attrs_in, kinds_at};
 
-use am_traits::{Base, BaseFault};
+use base_trait::{Base, BaseFault};
 use calculus::{Attr, Kind, OutOfMemory, RelInfo, RelKey};
 use std::alloc::Global;
 
@@ -30,10 +30,10 @@ fn kinds_in(alloc: Global, info: &Option<RelInfo>) -> Result<Vec<Kind>, OutOfMem
     }
 }
 
-/// The kinds of the attributes of the relation, view or catalogue under a key; none where nothing is
-/// there.
+/// The kinds of the attributes of the relation, view or catalogue under a key; none where an index
+/// or nothing is there.
 pub fn kinds_at<B: Base>(alloc: Global, base: &mut B, key: &RelKey) -> Result<Vec<Kind>, BaseFault>
-    ensures told { (db : Db) → B.database base.old ≡ Some db → IfOk result (λ kinds. kinds.items ≡ kinds_at db key.now) }
+    ensures known { (db : Db) → B.schema base.old ≡ Some db → IfOk result (λ kinds. kinds.items ≡ kinds_at db key.now) }
     ensures kept { B.database base.new ≡ B.database base.old }
     ensures stays { (s : Db) → B.schema base.old ≡ Some s → B.schema base.new ≡ Some s }
     ensures asked { (b : B) → B.asked b base.old → B.asked b base.new }

@@ -4,9 +4,9 @@ ghost use Rattle.std.specs.Prelude.{◌≡◌, [], Some, IfOk, OnOk};
 ghost use Rattle.calculus.specs.Database.{Db};
 ghost use Rattle.calculus.specs.Rows.{set_of};
 ghost use Rattle.calculus.specs.Stored.{rows_at};
-ghost use Rattle.am_traits.specs.Causes.{HasCause};
+ghost use Rattle.base_trait.specs.Causes.{HasCause};
 
-use am_traits::{Base, BaseFault};
+use base_trait::{Base, BaseFault};
 use calculus::{List, Place, Probe, RelKey, Row, RowSet};
 use memory::push;
 use std::alloc::Global;
@@ -21,7 +21,7 @@ fn put_scanned<B: Base>(
 ) -> Result<(), BaseFault>
     requires any { probe.now.equal ≡ [] }
     requires empty { rows.old.items ≡ [] }
-    ensures told { (db : Db) → B.database base.old ≡ Some db → OnOk result (set_of rows.new.items ≡ rows_at db key.now) }
+    ensures known { (db : Db) → B.database base.old ≡ Some db → OnOk result (set_of rows.new.items ≡ rows_at db key.now) }
     ensures kept { B.database base.new ≡ B.database base.old }
     ensures stays { (s : Db) → B.schema base.old ≡ Some s → B.schema base.new ≡ Some s }
     ensures asked { (b : B) → B.asked b base.old → B.asked b base.new }
@@ -40,7 +40,7 @@ fn put_scanned<B: Base>(
 /// The set of the rows of the relation or catalogue under a key, by one scan. A database has at most
 /// 1,000,000 rows under a key; what gives more stands for none, and the fault is `Damaged`.
 pub fn rows_of<B: Base>(alloc: Global, base: &mut B, key: &RelKey) -> Result<RowSet, BaseFault>
-    ensures told { (db : Db) → B.database base.old ≡ Some db → IfOk result (λ set. set ≡ rows_at db key.now) }
+    ensures known { (db : Db) → B.database base.old ≡ Some db → IfOk result (λ set. set ≡ rows_at db key.now) }
     ensures kept { B.database base.new ≡ B.database base.old }
     ensures stays { (s : Db) → B.schema base.old ≡ Some s → B.schema base.new ≡ Some s }
     ensures asked { (b : B) → B.asked b base.old → B.asked b base.new }

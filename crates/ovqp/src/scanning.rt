@@ -7,13 +7,13 @@ ghost use Rattle.calculus.specs.Stored.{rows_at};
 ghost use Rattle.calculus.specs.Targets.{rows_given, some_lacks};
 ghost use Rattle.calculus.specs.Term.{no_aggs};
 ghost use Rattle.ovqp.specs.Walk.{Gives};
-ghost use Rattle.am_traits.specs.Scans.{first_place};
+ghost use Rattle.base_trait.specs.Scans.{first_place};
 ghost use Rattle.ovqp.specs.Parts.{IsQueryOf, alone};
 ghost use Rattle.ovqp.specs.ScanCauses.{HasCause};
 
 use crate::fault::QueryFault;
 use crate::giving::give_of;
-use am_traits::{Base, BaseFault};
+use base_trait::{Base, BaseFault};
 use calculus::{List, Place, Probe, QQual, RelKey, Row, RowSet, Target};
 use std::alloc::Global;
 
@@ -29,7 +29,7 @@ fn put_scanned<B: Base>(
 ) -> Result<(), QueryFault>
     requires any { probe.now.equal ≡ [] }
     requires empty { given.old.items ≡ [] }
-    ensures told { (db : Db) → B.database base.old ≡ Some db → (q : Query) → IsQueryOf q rel.now qual.now targets.now
+    ensures known { (db : Db) → B.database base.old ≡ Some db → (q : Query) → IsQueryOf q rel.now qual.now targets.now
         → OnOk result (Gives no_aggs q (map alone (B.left base.old rel.now first_place)) [] given.new.items) }
     ensures kept { B.database base.new ≡ B.database base.old }
     ensures stays { (s : Db) → B.schema base.old ≡ Some s → B.schema base.new ≡ Some s }

@@ -4,11 +4,11 @@ use Rattle.std.specs.Result.{IsErrAnd}
 use Rattle.fault_io.specs.Causes.{Rose}
 use Rattle.disk_model.specs.Disk.{Image}
 use Rattle.disk_model.specs.declared.disk.Addr.{Addr}
-use Rattle.am_traits.specs.declared.fault.BaseFault.{BaseFault}
-use Rattle.am_traits.specs.declared.fault.BaseFault.TheVariants as faults
-use Rattle.access_traits.specs.declared.fault.StoreFault.{StoreFault}
-use Rattle.access_traits.specs.declared.fault.StoreFault.TheVariants as store
-use Rattle.access_traits.specs.Causes.{HasFileCause, HasStoreCause, StoreMayFail, of_store}
+use Rattle.base_trait.specs.declared.fault.BaseFault.{BaseFault}
+use Rattle.base_trait.specs.declared.fault.BaseFault.TheVariants as faults
+use Rattle.am_traits.specs.declared.fault.StoreFault.{StoreFault}
+use Rattle.am_traits.specs.declared.fault.StoreFault.TheVariants as store
+use Rattle.am_traits.specs.Causes.{HasFileCause, HasStoreCause, StoreMayFail, of_store}
 use Rattle.page_chain.proofs.Carried.{cause_store}
 
 -- as one of a file

@@ -2,19 +2,19 @@
 use Rattle.std.proofs.Common.{◌≡◌, sym, ap, subst, ◌∙◌, ℕ, suc, ◌+◌, List, [], ◌++◌, take, drop, Option, Some, arith, append_assoc, append-nil}
 use Rattle.std.proofs.lemmas.List.{take-append-drop}
 use Rattle.disk_model.specs.Disk.{Image}
-use Rattle.access_traits.specs.Pages.{with_page}
+use Rattle.am_traits.specs.Pages.{with_page}
 use Rattle.page_cells.specs.Page.{IsPage, next_page, slots}
-use Rattle.page_chain.specs.Filled.{HasOnly, IsFilled, InHand, ToldLaid, IsLinked}
+use Rattle.page_chain.specs.Filled.{HasOnly, IsFilled, InHand, KnownLaid, IsLinked}
 use Rattle.page_chain.specs.Lying.{lying_in, bytes_of}
 use Rattle.page_chain.specs.Pages.{page_at}
-use Rattle.page_chain.proofs.Laying.{laid_first, laid_more, bytes_of_only, bytes_join}
+use Rattle.page_chain.proofs.Writing.{laid_first, laid_more, bytes_of_only, bytes_join}
 
 -- the first page is filled
-pub hand_first : (file first : ℕ) (p q : List ℕ) (n : ℕ) (rows : List (List ℕ)) (m : Image) (told : Option Image) → told ≡ Some m
-    → IsFilled p (take n rows) q → IsPage q → next_page q ≡ 0 → InHand file first first q (drop n rows) rows (with_page (page_at file first) p m) told
-hand_first file first p q n rows m told is filled page ends = record {
+pub hand_first : (file first : ℕ) (p q : List ℕ) (n : ℕ) (rows : List (List ℕ)) (m : Image) (known : Option Image) → known ≡ Some m
+    → IsFilled p (take n rows) q → IsPage q → next_page q ≡ 0 → InHand file first first q (drop n rows) rows (with_page (page_at file first) p m) known
+hand_first file first p q n rows m known is filled page ends = record {
   image = m;
-  told_still = is;
+  still_known = is;
   new = (filled.came first).new;
   all = ap (λ l. l ++ drop n rows) (filled.came first).bytes ∙ take-append-drop n rows;
   laid = laid_first file first m p q (take n rows) (filled.came first).new page ends (filled.came first).bytes (filled.came first).all filled.behind;
@@ -30,7 +30,7 @@ pub hand_more : (file first at : ℕ) (p fresh q : List ℕ) (n : ℕ) (left row
     → InHand file first (at + 1) q (drop n left) rows m after
 hand_more file first at p fresh q n left rows m before after hand link none filled page ends = subst (λ k. InHand file first k q (drop n left) rows m after) (let e : suc at ≡ at + 1 = omega arith in e) (record {
   image = with_page (page_at file at) linked.linked hand.image;
-  told_still = linked.told_still;
+  still_known = linked.still_known;
   new = hand.new ++ lying_in (suc at) 0 (slots q);
   all =
       ap (λ l. l ++ drop n left) (bytes_join hand.new (lying_in (suc at) 0 (slots q)) ∙ ap (λ l. bytes_of hand.new ++ l) (ap (λ s. bytes_of (lying_in (suc at) 0 s)) only ∙ bytes_of_only (suc at) 0 (take n left)))
@@ -39,17 +39,17 @@ hand_more file first at p fresh q n left rows m before after hand link none fill
 })
   where
     linked : IsLinked file at p hand.image after
-    linked = link hand.image hand.told_still
+    linked = link hand.image hand.still_known
 
     only : HasOnly q (take n left)
     only = only_these fresh q (take n left) none filled
 
 -- the last page is put
 pub hand_put : (file first at : ℕ) (p : List ℕ) (rows : List (List ℕ)) (m : Image) (before after : Option Image) → InHand file first at p [] rows m before
-    → ((image : Image) → before ≡ Some image → after ≡ Some (with_page (page_at file at) p image)) → ToldLaid file first at rows m after
+    → ((image : Image) → before ≡ Some image → after ≡ Some (with_page (page_at file at) p image)) → KnownLaid file first at rows m after
 hand_put file first at p rows m before after hand put = record {
   image = with_page (page_at file at) p hand.image;
-  told_still = put hand.image hand.told_still;
+  still_known = put hand.image hand.still_known;
   new = hand.new;
   bytes = sym (append-nil (bytes_of hand.new)) ∙ hand.all;
   laid = hand.laid;

@@ -8,7 +8,7 @@ pub mod Counting
 pub mod Grown
 pub mod Handed
 pub mod Hands
-pub mod Laying
+pub mod Writing
 pub mod Linking
 pub mod LookUp
 pub mod Missing

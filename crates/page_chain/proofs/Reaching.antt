@@ -6,7 +6,7 @@ use Rattle.std.proofs.lemmas.List.Elements.{filter-append}
 use Rattle.std.specs.List.{AllByRecursion, list_all}
 use Rattle.disk_model.specs.Disk.{Image}
 use Rattle.disk_model.specs.declared.disk.Addr.{Addr}
-use Rattle.access_traits.specs.Pages.{SameElsewhere}
+use Rattle.am_traits.specs.Pages.{SameElsewhere}
 use Rattle.page_chain.specs.Chains.{IsChain, starts, is_on, NoChainTo}
 use Rattle.page_chain.specs.Lying.{Lying, Came, all_differ, bytes_of, lying, lying_on, staying, is_among}
 use Rattle.page_chain.specs.Pages.{Pages, page_at, pages_of, next_of}
@@ -58,9 +58,9 @@ pub record Walked (going coming : List (List ℕ)) (gone next : ℕ) (before now
   pub changed : Changed going coming gone (lying before done) (lying now done)
 
 -- The pages before one are done.
-pub record Reached (file bound number : ℕ) (going coming : List (List ℕ)) (gone : ℕ) (before : Image) (told : Option Image) : Type 0 where
+pub record Reached (file bound number : ℕ) (going coming : List (List ℕ)) (gone : ℕ) (before : Image) (known : Option Image) : Type 0 where
   pub image : Image
-  pub told_still : told ≡ Some image
+  pub still_known : known ≡ Some image
   pub elsewhere : SameElsewhere file before image
   pub links : (k : ℕ) → next_of bound k (image (page_at file k)) ≡ next_of bound k (before (page_at file k))
   pub ahead : (k : ℕ) → number ≤ k → image (page_at file k) ≡ before (page_at file k)
@@ -68,11 +68,11 @@ pub record Reached (file bound number : ℕ) (going coming : List (List ℕ)) (g
       → Walked going coming gone number (pages_of before file) (pages_of image file) numbers
 
 -- before the first page nothing is done
-pub reached_start : (file bound : ℕ) (going : List (List ℕ)) (before : Image) (told : Option Image) → told ≡ Some before → Reached file bound 0 going [] 0 before told
+pub reached_start : (file bound : ℕ) (going : List (List ℕ)) (before : Image) (known : Option Image) → known ≡ Some before → Reached file bound 0 going [] 0 before known
 unfolding lying
-reached_start file bound going before told is = record {
+reached_start file bound going before known is = record {
   image = before;
-  told_still = is;
+  still_known = is;
   elsewhere = λ b other. refl;
   links = λ k. refl;
   ahead = λ k le. refl;
@@ -95,9 +95,9 @@ one_or_other k n = go (k == n) refl
     go true e = inl (eqb-true k n e)
     go false e = inr (λ same. absurd (cc (sym e ∙ eq-eqb k n same)))
 
-module _ (file bound number : ℕ) (going first later : List (List ℕ)) (gone more next : ℕ) (before : Image) (between told : Option Image)
+module _ (file bound number : ℕ) (going first later : List (List ℕ)) (gone more next : ℕ) (before : Image) (between known : Option Image)
     (so_far : Reached file bound number going first gone before between)
-    (here : PageRenewed file bound number going later more next so_far.image told) where
+    (here : PageRenewed file bound number going later more next so_far.image known) where
   old : Pages
   old = pages_of before file
 
@@ -167,10 +167,10 @@ module _ (file bound number : ℕ) (going first later : List (List ℕ)) (gone m
   joined done n rest = sym (append_assoc done (n ∷ []) rest)
 
   -- where the chain goes on the next page is reached
-  pub reached_next : 0 < next → Reached file bound next going (first ++ later) (gone + more) before told
+  pub reached_next : 0 < next → Reached file bound next going (first ++ later) (gone + more) before known
   reached_next some = record {
     image = here.image;
-    told_still = here.told_still;
+    still_known = here.still_known;
     elsewhere = still_elsewhere;
     links = still_links;
     ahead = λ k le. still_ahead k (let up = follows_up bound number next (so_far.image (page_at file number)) some here.goes_on in omega (arith, le, up.0));
@@ -219,10 +219,10 @@ module _ (file bound number : ℕ) (going first later : List (List ℕ)) (gone m
           omega (arith, here, none_behind, sum, all)
 
   -- what stands on the chain, where nothing follows or as many went as are to go
-  pub passed : (next ≡ 0) ⊎ (length going ≤ gone + more) → Passed file bound going (first ++ later) (gone + more) before told
+  pub passed : (next ≡ 0) ⊎ (length going ≤ gone + more) → Passed file bound going (first ++ later) (gone + more) before known
   passed stops = record {
     image = here.image;
-    told_still = here.told_still;
+    still_known = here.still_known;
     elsewhere = still_elsewhere;
     links = still_links;
     number = λ numbers first_is is lie. (left_behind numbers (walk numbers first_is is) lie stops).number;
@@ -268,9 +268,9 @@ pub at_page : (file page : ℕ) (a : Addr) → a.file ≡ file → a.page ≡ pa
 at_page file page a of_file of_page = λ i. record { file = of_file i; page = of_page i }
 
 -- a page that is reached and isn't one of a chain that ends as it must shows that there is none
-pub off_reached : (file bound number last : ℕ) (going coming : List (List ℕ)) (gone : ℕ) (before : Image) (told : Option Image)
-    (so_far : Reached file bound number going coming gone before told) (a : Addr) → OffChain file number bound last so_far.image a → NoChainTo file bound last before a
-off_reached file bound number last going coming gone before told so_far a its = record {
+pub off_reached : (file bound number last : ℕ) (going coming : List (List ℕ)) (gone : ℕ) (before : Image) (known : Option Image)
+    (so_far : Reached file bound number going coming gone before known) (a : Addr) → OffChain file number bound last so_far.image a → NoChainTo file bound last before a
+off_reached file bound number last going coming gone before known so_far a its = record {
   of_file = its.of_file;
   off = subst (λ page. is_on bound last page (before a) ≡ false) (sym its.of_page) here;
   none = λ earlier first is. let walked = so_far.walked (earlier ++ last ∷ []) first is in

@@ -6,8 +6,8 @@ use Rattle.std.proofs.lemmas.Option.{none-some}
 use Rattle.std.specs.List.{list_all}
 use Rattle.disk_model.specs.Disk.{Image}
 use Rattle.disk_model.specs.declared.disk.Addr.{Addr}
-use Rattle.access_traits.specs.Causes.{IsAtFault}
-use Rattle.access_traits.specs.Pages.{SameElsewhere, KeepsOthers}
+use Rattle.am_traits.specs.Causes.{IsAtFault}
+use Rattle.am_traits.specs.Pages.{SameElsewhere, KeepsOthers}
 use Rattle.page_chain.specs.Chains.{IsChain, starts, is_on, OffPage, NoChainTo}
 use Rattle.page_chain.specs.Grown.{IsGrown, numbers_to}
 use Rattle.page_chain.specs.Lying.{Came, bytes_of, is_among, lying, staying}
@@ -22,10 +22,10 @@ use Rattle.page_chain.proofs.Reaching.{at_page}
 use Rattle.page_chain.proofs.Along.{chain_rest, chain_wider, chain_kept, none_off, off_none, on_by, is_on_by, on_alike}
 
 -- without rows that are to go nothing is done
-pub passed_nothing : (file bound : ℕ) (going : List (List ℕ)) (before : Image) (told : Option Image) → going ≡ [] → told ≡ Some before → Passed file bound going [] 0 before told
-passed_nothing file bound going before told none is = record {
+pub passed_nothing : (file bound : ℕ) (going : List (List ℕ)) (before : Image) (known : Option Image) → going ≡ [] → known ≡ Some before → Passed file bound going [] 0 before known
+passed_nothing file bound going before known none is = record {
   image = before;
-  told_still = is;
+  still_known = is;
   elsewhere = λ b other. refl;
   links = λ k. refl;
   number = λ numbers first chain lie. sym (ap length none);
@@ -40,11 +40,11 @@ passed_nothing file bound going before told none is = record {
 }
 
 -- without rows that come a chain is as it was
-pub grown_nothing : (file bound : ℕ) (earlier : List ℕ) (last : ℕ) (rows : List (List ℕ)) (before : Image) (told : Option Image) → rows ≡ [] → told ≡ Some before
-    → IsChain bound (pages_of before file) (earlier ++ last ∷ []) → IsGrown file bound earlier last last rows before told
-grown_nothing file bound earlier last rows before told none is chain = record {
+pub grown_nothing : (file bound : ℕ) (earlier : List ℕ) (last : ℕ) (rows : List (List ℕ)) (before : Image) (known : Option Image) → rows ≡ [] → known ≡ Some before
+    → IsChain bound (pages_of before file) (earlier ++ last ∷ []) → IsGrown file bound earlier last last rows before known
+grown_nothing file bound earlier last rows before known none is chain = record {
   image = before;
-  told_still = is;
+  still_known = is;
   chain = λ more le lt. subst (λ numbers. IsChain more (pages_of before file) (earlier ++ numbers)) (sym (to_first last)) (chain_wider bound (pages_of before file) more (earlier ++ last ∷ []) le chain);
   came =
       subst (λ rows. Came (lying (pages_of before file) (earlier ++ last ∷ [])) rows (lying (pages_of before file) (earlier ++ numbers_to last last))) (sym none)
@@ -59,17 +59,17 @@ others_twice file old mid new first later = record {
 }
 
 -- rows went and others came as there was room, and then the rest came behind
-pub renewed : (file bound : ℕ) (earlier : List ℕ) (last now : ℕ) (going coming : List (List ℕ)) (put gone : ℕ) (before : Image) (between told : Option Image)
+pub renewed : (file bound : ℕ) (earlier : List ℕ) (last now : ℕ) (going coming : List (List ℕ)) (put gone : ℕ) (before : Image) (between known : Option Image)
     → (its : Passed file bound going (take put coming) gone before between) → starts (earlier ++ last ∷ []) ≡ true → IsChain bound (pages_of before file) (earlier ++ last ∷ [])
     → AllLie (pages_of before file) (earlier ++ last ∷ []) going
-    → (IsChain bound (pages_of its.image file) (earlier ++ last ∷ []) → IsGrown file bound earlier last now (drop put coming) its.image told)
-    → (gone ≡ length going) × IsRenewed file bound earlier last now going coming before told
-renewed file bound earlier last now going coming put gone before between told its first chain lie grows =
+    → (IsChain bound (pages_of its.image file) (earlier ++ last ∷ []) → IsGrown file bound earlier last now (drop put coming) its.image known)
+    → (gone ≡ length going) × IsRenewed file bound earlier last now going coming before known
+renewed file bound earlier last now going coming put gone before between known its first chain lie grows =
     let grown = grows (chain_kept bound (pages_of before file) (pages_of its.image file) (earlier ++ last ∷ []) its.links chain) in (
       its.number (earlier ++ last ∷ []) first chain lie,
       record {
         image = grown.image;
-        told_still = grown.told_still;
+        still_known = grown.still_known;
         chain = grown.chain;
         came =
             subst (λ rows. Came (staying going (lying (pages_of before file) (earlier ++ last ∷ []))) rows (lying (pages_of grown.image file) (earlier ++ numbers_to last now))) (take-append-drop put coming)
@@ -95,7 +95,7 @@ pub off_behind : (file bound last other : ℕ) (going coming : List (List ℕ)) 
     → (a : Addr) → IsAtFault mid (OffPage file last other) a → IsAtFault old (NoChainTo file bound last) a
 off_behind file bound last other going coming gone old mid passed a fault m is =
     let its = passed m is in
-    let off = fault its.image its.told_still in
+    let off = fault its.image its.still_known in
     let at = at_page file last a off.of_file off.of_page in
     let later : is_on bound last last (its.image (page_at file last)) ≡ false =
     off_last bound other last (its.image (page_at file last)) (next_of bound last (its.image (page_at file last))) refl (subst (λ b. next_of other last (its.image b) ≡ None) at off.off) in

@@ -3,8 +3,8 @@ use Rattle.std.proofs.Common.{◌≡◌, refl, sym, ap, subst, ◌∙◌, ℕ, �
 use Rattle.std.proofs.lemmas.Bool.{and_from, and_parts, eqb-true, eq-eqb}
 use Rattle.disk_model.specs.Disk.{Image, is_at}
 use Rattle.disk_model.specs.declared.disk.Addr.{Addr}
-use Rattle.access_traits.specs.Causes.{IsAtFault}
-use Rattle.access_traits.specs.Pages.{with_page}
+use Rattle.am_traits.specs.Causes.{IsAtFault}
+use Rattle.am_traits.specs.Pages.{with_page}
 use Rattle.page_cells.specs.Page.{IsPage, next_page}
 use Rattle.page_chain.specs.Chains.{OffPage}
 use Rattle.page_chain.specs.Lying.{Came, lying_on, staying}
@@ -32,13 +32,13 @@ pub goes_alike : (bound page next : ℕ) (p q : List ℕ) → next_of bound page
 goes_alike bound page next p q e is same = let its = follows_as bound page next p e in to_follow bound page next q is (same ∙ its.1) its.2
 
 -- a page from which rows went, and to which others came, was put
-pub page_renewed : (file bound page : ℕ) (going coming : List (List ℕ)) (gone next : ℕ) (p q : List ℕ) (m : Image) (told : Option Image)
-    → m (page_at file page) ≡ Some p → told ≡ Some (with_page (page_at file page) q m) → next_of bound page (Some p) ≡ Some next → IsPage q → next_page q ≡ next_page p
+pub page_renewed : (file bound page : ℕ) (going coming : List (List ℕ)) (gone next : ℕ) (p q : List ℕ) (m : Image) (known : Option Image)
+    → m (page_at file page) ≡ Some p → known ≡ Some (with_page (page_at file page) q m) → next_of bound page (Some p) ≡ Some next → IsPage q → next_page q ≡ next_page p
     → ((n : ℕ) → Came (staying going (lying_on n (Some p))) coming (lying_on n (Some q))) → ((n : ℕ) → gone + length (staying going (lying_on n (Some p))) ≡ length (lying_on n (Some p)))
-    → PageRenewed file bound page going coming gone next m told
-page_renewed file bound page going coming gone next p q m told there is follows q_is same came went = record {
+    → PageRenewed file bound page going coming gone next m known
+page_renewed file bound page going coming gone next p q m known there is follows q_is same came went = record {
   image = with_page (page_at file page) q m;
-  told_still = is;
+  still_known = is;
   elsewhere = λ b other. put_elsewhere (page_at file page) b q m other;
   goes_on = ap (next_of bound page) there ∙ follows;
   goes_on_still = ap (next_of bound page) (put_here (page_at file page) q m) ∙ goes_alike bound page next p q follows q_is same;
@@ -49,13 +49,13 @@ page_renewed file bound page going coming gone next p q m told there is follows 
 }
 
 -- a page that stayed as it was wasn't put
-pub page_kept : (file bound page : ℕ) (going coming : List (List ℕ)) (gone next : ℕ) (p q : List ℕ) (m : Image) (told : Option Image)
-    → m (page_at file page) ≡ Some p → told ≡ Some m → next_of bound page (Some p) ≡ Some next → q ≡ p
+pub page_kept : (file bound page : ℕ) (going coming : List (List ℕ)) (gone next : ℕ) (p q : List ℕ) (m : Image) (known : Option Image)
+    → m (page_at file page) ≡ Some p → known ≡ Some m → next_of bound page (Some p) ≡ Some next → q ≡ p
     → ((n : ℕ) → Came (staying going (lying_on n (Some p))) coming (lying_on n (Some q))) → ((n : ℕ) → gone + length (staying going (lying_on n (Some p))) ≡ length (lying_on n (Some p)))
-    → PageRenewed file bound page going coming gone next m told
-page_kept file bound page going coming gone next p q m told there is follows same came went = record {
+    → PageRenewed file bound page going coming gone next m known
+page_kept file bound page going coming gone next p q m known there is follows same came went = record {
   image = m;
-  told_still = is;
+  still_known = is;
   elsewhere = λ b other. refl;
   goes_on = ap (next_of bound page) there ∙ follows;
   goes_on_still = ap (next_of bound page) there ∙ follows;
@@ -65,8 +65,8 @@ page_kept file bound page going coming gone next p q m told there is follows sam
 }
 
 -- a page that isn't one of a chain isn't one of a chain that ends as it must
-pub off_any : (file page bound last : ℕ) (told : Option Image) (a : Addr) → IsAtFault told (OffPage file page bound) a → IsAtFault told (OffChain file page bound last) a
-off_any file page bound last told a fault m is = let off = fault m is in record {
+pub off_any : (file page bound last : ℕ) (known : Option Image) (a : Addr) → IsAtFault known (OffPage file page bound) a → IsAtFault known (OffChain file page bound last) a
+off_any file page bound last known a fault m is = let off = fault m is in record {
   of_file = off.of_file;
   of_page = off.of_page;
   off = off_none bound last page (m a) off.off;

@@ -10,8 +10,8 @@ use Rattle.std.specs.List.{AllByRecursion}
 use Rattle.std.specs.List.Sorted.{IsPermutation}
 use Rattle.disk_model.specs.Disk.{Image}
 use Rattle.disk_model.specs.declared.disk.Addr.{Addr}
-use Rattle.access_traits.specs.Causes.{IsAtFault}
-use Rattle.access_traits.specs.Pages.{KeepsOthers, with_page}
+use Rattle.am_traits.specs.Causes.{IsAtFault}
+use Rattle.am_traits.specs.Pages.{KeepsOthers, with_page}
 use Rattle.page_cells.specs.Page.{Slot, IsPage, next_page, slots}
 use Rattle.page_chain.specs.Chains.{IsChain, starts, OffPage, NoChain}
 use Rattle.page_chain.specs.Lying.{Lying, bytes_of, is_among, lying, lying_in, lying_on, place_of}
@@ -49,12 +49,12 @@ row_went n p q line row there cleared =
     subst (λ s. IsPermutation (lying_in n 0 (slots p)) ((place_of n line, row) ∷ lying_in n 0 s)) (sym cleared) (row_is_cleared n (slots p) line row there)
 
 -- a page from which a row went was put
-pub page_took : (file bound page : ℕ) (row : List ℕ) (line next : ℕ) (p q : List ℕ) (m : Image) (told : Option Image)
-    → m (page_at file page) ≡ Some p → told ≡ Some (with_page (page_at file page) q m) → next_of bound page (Some p) ≡ Some next → IsPage q → next_page q ≡ next_page p
-    → ((n : ℕ) → IsPermutation (lying_on n (Some p)) ((place_of n line, row) ∷ lying_on n (Some q))) → PageTook file bound page row (Some line) next m told
-page_took file bound page row line next p q m told there is follows q_is same went = record {
+pub page_took : (file bound page : ℕ) (row : List ℕ) (line next : ℕ) (p q : List ℕ) (m : Image) (known : Option Image)
+    → m (page_at file page) ≡ Some p → known ≡ Some (with_page (page_at file page) q m) → next_of bound page (Some p) ≡ Some next → IsPage q → next_page q ≡ next_page p
+    → ((n : ℕ) → IsPermutation (lying_on n (Some p)) ((place_of n line, row) ∷ lying_on n (Some q))) → PageTook file bound page row (Some line) next m known
+page_took file bound page row line next p q m known there is follows q_is same went = record {
   image = with_page (page_at file page) q m;
-  told_still = is;
+  still_known = is;
   elsewhere = λ b other. put_elsewhere (page_at file page) b q m other;
   goes_on = ap (next_of bound page) there ∙ follows;
   goes_on_still = ap (next_of bound page) (put_here (page_at file page) q m) ∙ goes_alike bound page next p q follows q_is same;
@@ -64,11 +64,11 @@ page_took file bound page row line next p q m told there is follows q_is same we
 }
 
 -- a page without such a row stayed
-pub page_stayed : (file bound page : ℕ) (row : List ℕ) (next : ℕ) (p : List ℕ) (m : Image) (told : Option Image) → m (page_at file page) ≡ Some p → told ≡ Some m
-    → next_of bound page (Some p) ≡ Some next → ((n : ℕ) → is_among (bytes_of (lying_on n (Some p))) row ≡ false) → PageTook file bound page row None next m told
-page_stayed file bound page row next p m told there is follows none = record {
+pub page_stayed : (file bound page : ℕ) (row : List ℕ) (next : ℕ) (p : List ℕ) (m : Image) (known : Option Image) → m (page_at file page) ≡ Some p → known ≡ Some m
+    → next_of bound page (Some p) ≡ Some next → ((n : ℕ) → is_among (bytes_of (lying_on n (Some p))) row ≡ false) → PageTook file bound page row None next m known
+page_stayed file bound page row next p m known there is follows none = record {
   image = m;
-  told_still = is;
+  still_known = is;
   elsewhere = λ b other. refl;
   goes_on = ap (next_of bound page) there ∙ follows;
   goes_on_still = ap (next_of bound page) there ∙ follows;
@@ -76,23 +76,23 @@ page_stayed file bound page row next p m told there is follows none = record {
 }
 
 -- the same of the line that was answered
-pub page_took_line : (file bound page : ℕ) (row : List ℕ) (line : Option ℕ) (next : ℕ) (p q : List ℕ) (m : Image) (told : Option Image) → is_some line ≡ true
-    → m (page_at file page) ≡ Some p → told ≡ Some (with_page (page_at file page) q m) → next_of bound page (Some p) ≡ Some next → IsPage q → next_page q ≡ next_page p
-    → IfSome line (λ l. (n : ℕ) → IsPermutation (lying_on n (Some p)) ((place_of n l, row) ∷ lying_on n (Some q))) → PageTook file bound page row line next m told
-page_took_line file bound page row None next p q m told some there is follows q_is same went = absurd (cc some)
-page_took_line file bound page row (Some line) next p q m told some there is follows q_is same went = page_took file bound page row line next p q m told there is follows q_is same went
+pub page_took_line : (file bound page : ℕ) (row : List ℕ) (line : Option ℕ) (next : ℕ) (p q : List ℕ) (m : Image) (known : Option Image) → is_some line ≡ true
+    → m (page_at file page) ≡ Some p → known ≡ Some (with_page (page_at file page) q m) → next_of bound page (Some p) ≡ Some next → IsPage q → next_page q ≡ next_page p
+    → IfSome line (λ l. (n : ℕ) → IsPermutation (lying_on n (Some p)) ((place_of n l, row) ∷ lying_on n (Some q))) → PageTook file bound page row line next m known
+page_took_line file bound page row None next p q m known some there is follows q_is same went = absurd (cc some)
+page_took_line file bound page row (Some line) next p q m known some there is follows q_is same went = page_took file bound page row line next p q m known there is follows q_is same went
 
-pub page_stayed_line : (file bound page : ℕ) (row : List ℕ) (line : Option ℕ) (next : ℕ) (p : List ℕ) (m : Image) (told : Option Image) → is_some line ≡ false
-    → m (page_at file page) ≡ Some p → told ≡ Some m → next_of bound page (Some p) ≡ Some next → IfNone line ((n : ℕ) → is_among (bytes_of (lying_on n (Some p))) row ≡ false)
-    → PageTook file bound page row line next m told
-page_stayed_line file bound page row (Some line) next p m told none there is follows stays = absurd (cc none)
-page_stayed_line file bound page row None next p m told none there is follows stays = page_stayed file bound page row next p m told there is follows stays
+pub page_stayed_line : (file bound page : ℕ) (row : List ℕ) (line : Option ℕ) (next : ℕ) (p : List ℕ) (m : Image) (known : Option Image) → is_some line ≡ false
+    → m (page_at file page) ≡ Some p → known ≡ Some m → next_of bound page (Some p) ≡ Some next → IfNone line ((n : ℕ) → is_among (bytes_of (lying_on n (Some p))) row ≡ false)
+    → PageTook file bound page row line next m known
+page_stayed_line file bound page row (Some line) next p m known none there is follows stays = absurd (cc none)
+page_stayed_line file bound page row None next p m known none there is follows stays = page_stayed file bound page row next p m known there is follows stays
 
 -- no page of another file is changed
-pub others_took : (file bound page : ℕ) (row : List ℕ) (line : Option ℕ) (next : ℕ) (old told : Option Image) → ((m : Image) → old ≡ Some m → PageTook file bound page row line next m told)
-    → KeepsOthers file old told
-others_took file bound page row line next old told here = record {
-  each = λ m is. let its = here m is in (its.image, its.told_still, λ b other. its.elsewhere b (λ same. other (ap (λ (b : Addr). b.file) same)));
+pub others_took : (file bound page : ℕ) (row : List ℕ) (line : Option ℕ) (next : ℕ) (old known : Option Image) → ((m : Image) → old ≡ Some m → PageTook file bound page row line next m known)
+    → KeepsOthers file old known
+others_took file bound page row line next old known here = record {
+  each = λ m is. let its = here m is in (its.image, its.still_known, λ b other. its.elsewhere b (λ same. other (ap (λ (b : Addr). b.file) same)));
 }
 
 -- ---- a chain
@@ -129,9 +129,9 @@ none_done : (row : List ℕ) (pages : Pages) (done : List ℕ) (n : ℕ) → is_
 none_done row pages done n e f = ap (λ rows. is_among (bytes_of rows) row) (parts pages done n) ∙ among_both (lying pages done) (lying_on n (pages n)) row e f
 
 -- from a page without such a row the search goes on
-pub searched_next : (file bound number : ℕ) (row : List ℕ) (next : ℕ) (m : Image) (told : Option Image) → Searched file bound number row m → PageTook file bound number row None next m told
+pub searched_next : (file bound number : ℕ) (row : List ℕ) (next : ℕ) (m : Image) (known : Option Image) → Searched file bound number row m → PageTook file bound number row None next m known
     → 0 < next → Searched file bound next row m
-searched_next file bound number row next m told so_far here some = record {
+searched_next file bound number row next m known so_far here some = record {
   walked = λ numbers first is.
       let its = so_far.walked numbers first is in
       let goes = chain_goes bound (pages_of m file) number next its.rest (chain_rest bound (pages_of m file) its.done number its.rest (subst (IsChain bound (pages_of m file)) its.are is)) here.goes_on some in
@@ -144,15 +144,15 @@ searched_next file bound number row next m told so_far here some = record {
 }
 
 -- where the chain ends there is no such row on it
-pub took_none : (file bound number : ℕ) (row : List ℕ) (next : ℕ) (m : Image) (told now : Option Image) → Searched file bound number row m → PageTook file bound number row None next m told → next ≡ 0
+pub took_none : (file bound number : ℕ) (row : List ℕ) (next : ℕ) (m : Image) (known now : Option Image) → Searched file bound number row m → PageTook file bound number row None next m known → next ≡ 0
     → now ≡ Some m → (numbers : List ℕ) → starts numbers ≡ true → IsChain bound (pages_of m file) numbers → TookOne file bound numbers row None m now
-took_none file bound number row next m told now so_far here ends is numbers first chain =
+took_none file bound number row next m known now so_far here ends is numbers first chain =
     let its = so_far.walked numbers first chain in
     let last : its.rest ≡ [] = chain_ends bound (pages_of m file) number next its.rest (chain_rest bound (pages_of m file) its.done number its.rest (subst (IsChain bound (pages_of m file)) its.are chain)) here.goes_on ends in
     let are : numbers ≡ its.done ++ number ∷ [] = its.are ∙ ap (λ rest. its.done ++ number ∷ rest) last in
     record {
       image = m;
-      told_still = is;
+      still_known = is;
       chain = chain;
       took = (ap (λ ns. is_among (bytes_of (lying (pages_of m file) ns)) row) are ∙ none_done row (pages_of m file) its.done number its.none here.took.0, refl);
     }
@@ -164,7 +164,7 @@ goes_from x first middle less rest p =
     (IsPermutation-append (first ++ middle) (first ++ x ∷ less) rest rest (IsPermutation-append first first middle (x ∷ less) (IsPermutation-refl first) p) (IsPermutation-refl rest))
     (IsPermutation-append (first ++ x ∷ less) (x ∷ (first ++ less)) rest rest (IsPermutation-middle first x less) (IsPermutation-refl rest))
 
-module _ (file bound number : ℕ) (row : List ℕ) (line next : ℕ) (m : Image) (told : Option Image) (so_far : Searched file bound number row m) (here : PageTook file bound number row (Some line) next m told) where
+module _ (file bound number : ℕ) (row : List ℕ) (line next : ℕ) (m : Image) (known : Option Image) (so_far : Searched file bound number row m) (here : PageTook file bound number row (Some line) next m known) where
   others : (k : ℕ) → (k ≡ number → ⊥) → here.image (page_at file k) ≡ m (page_at file k)
   others k other = here.elsewhere (page_at file k) (λ same. other (ap (λ (b : Addr). b.page) same))
 
@@ -187,7 +187,7 @@ module _ (file bound number : ℕ) (row : List ℕ) (line next : ℕ) (m : Image
   higher (k ∷ numbers) all = ((λ same. omega (arith, same, all.0)), higher numbers all.1)
 
   -- the row went from the chain
-  pub took_found : (numbers : List ℕ) → starts numbers ≡ true → IsChain bound (pages_of m file) numbers → TookOne file bound numbers row (Some (place_of number line)) m told
+  pub took_found : (numbers : List ℕ) → starts numbers ≡ true → IsChain bound (pages_of m file) numbers → TookOne file bound numbers row (Some (place_of number line)) m known
   took_found numbers first chain =
       let its = so_far.walked numbers first chain in
       let whole = subst (IsChain bound (pages_of m file)) its.are chain in
@@ -196,7 +196,7 @@ module _ (file bound number : ℕ) (row : List ℕ) (line next : ℕ) (m : Image
       (all_others its.rest (higher its.rest (chain_rises bound (pages_of m file) number its.rest (chain_rest bound (pages_of m file) its.done number its.rest whole)))) in
       record {
         image = here.image;
-        told_still = here.told_still;
+        still_known = here.still_known;
         chain = chain_kept bound (pages_of m file) (pages_of here.image file) numbers links chain;
         took =
             subst (λ rows. IsPermutation (lying (pages_of m file) numbers) ((place_of number line, row) ∷ rows))
@@ -219,9 +219,9 @@ chain_none bound n pages [] is e = none-some 0 (sym e ∙ is)
 chain_none bound n pages (k ∷ rest) is e = none-some k (sym e ∙ is.1)
 
 -- a page that is come to and isn't one of a chain shows that there is none
-pub off_searched : (file bound number : ℕ) (row : List ℕ) (told : Option Image) → ((m : Image) → told ≡ Some m → Searched file bound number row m)
-    → (a : Addr) → IsAtFault told (OffPage file number bound) a → IsAtFault told (NoChain file bound) a
-off_searched file bound number row told so_far a fault m is =
+pub off_searched : (file bound number : ℕ) (row : List ℕ) (known : Option Image) → ((m : Image) → known ≡ Some m → Searched file bound number row m)
+    → (a : Addr) → IsAtFault known (OffPage file number bound) a → IsAtFault known (NoChain file bound) a
+off_searched file bound number row known so_far a fault m is =
     let off = fault m is in
     let at = at_page file number a off.of_file off.of_page in
     record {

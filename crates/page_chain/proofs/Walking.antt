@@ -12,7 +12,7 @@ use Rattle.page_chain.specs.Lying.{lying_in, lying_on, lying, bytes_of}
 use Rattle.page_chain.specs.Pages.{Pages, page_at, pages_of, next_of}
 use Rattle.page_chain.proofs.Slots.{lying_append, lying_join, lying_one}
 use Rattle.page_chain.proofs.Linking.{follows_up}
-use Rattle.page_chain.proofs.Laying.{bytes_join}
+use Rattle.page_chain.proofs.Writing.{bytes_join}
 
 -- ---- the rows on a page, line by line
 

@@ -3,7 +3,7 @@ use Rattle.std.specs.Prelude.{◌≡◌, ℕ, ◌+◌, ◌<◌, ◌≤◌, List,
 use Rattle.std.specs.List.Sorted.{IsPermutation}
 use Rattle.calculus.specs.declared.probe.Place.{Place}
 use Rattle.disk_model.specs.Disk.{Image}
-use Rattle.access_traits.specs.Pages.{SameElsewhere, with_page}
+use Rattle.am_traits.specs.Pages.{SameElsewhere, with_page}
 use Rattle.page_cells.specs.Page.{IsPage, next_page, slots}
 use Rattle.page_chain.specs.Chains.{IsChain}
 use Rattle.page_chain.specs.Grown.{numbers_to}
@@ -30,31 +30,31 @@ pub record IsLaid (file first now : ℕ) (new : Lying) (before after : Image) : 
       → bytes_of (lying (pages_of after file) (numbers_to first now)) ≡ old ++ bytes_of new
 
 -- With the page in hand at its place, some of the rows are laid; the others are left.
-pub record InHand (file first at : ℕ) (page : List ℕ) (left rows : List (List ℕ)) (before : Image) (told : Option Image) : Type 0 where
+pub record InHand (file first at : ℕ) (page : List ℕ) (left rows : List (List ℕ)) (before : Image) (known : Option Image) : Type 0 where
   pub image : Image
-  pub told_still : told ≡ Some image
+  pub still_known : known ≡ Some image
   pub new : Lying
   pub all : bytes_of new ++ left ≡ rows
   pub laid : IsLaid file first at new before (with_page (page_at file at) page image)
 
--- The pages are told still, and these rows are laid.
-pub record ToldLaid (file first now : ℕ) (rows : List (List ℕ)) (before : Image) (told : Option Image) : Type 0 where
+-- The pages are still known, and these rows are laid.
+pub record KnownLaid (file first now : ℕ) (rows : List (List ℕ)) (before : Image) (known : Option Image) : Type 0 where
   pub image : Image
-  pub told_still : told ≡ Some image
+  pub still_known : known ≡ Some image
   pub new : Lying
   pub bytes : bytes_of new ≡ rows
   pub laid : IsLaid file first now new before image
 
--- The pages are told still, and the page at this place has these slots and goes on to the next.
-pub record IsLinked (file at : ℕ) (page : List ℕ) (before : Image) (told : Option Image) : Type 0 where
+-- The pages are still known, and the page at this place has these slots and goes on to the next.
+pub record IsLinked (file at : ℕ) (page : List ℕ) (before : Image) (known : Option Image) : Type 0 where
   pub linked : List ℕ
   pub is_page : IsPage linked
   pub same_slots : slots linked ≡ slots page
   pub goes_on : next_page linked ≡ at + 1
-  pub told_still : told ≡ Some (with_page (page_at file at) linked before)
+  pub still_known : known ≡ Some (with_page (page_at file at) linked before)
 
--- The pages are told still, and this row is laid at this place.
-pub record OneLaid (file last : ℕ) (place : Place) (row : List ℕ) (before : Image) (told : Option Image) : Type 0 where
+-- The pages are still known, and this row is laid at this place.
+pub record OneLaid (file last : ℕ) (place : Place) (row : List ℕ) (before : Image) (known : Option Image) : Type 0 where
   pub image : Image
-  pub told_still : told ≡ Some image
+  pub still_known : known ≡ Some image
   pub laid : IsLaid file last place.page ((place, row) ∷ []) before image

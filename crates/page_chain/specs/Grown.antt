@@ -13,22 +13,22 @@ abbrev pub numbers_to : ℕ → ℕ → List ℕ
 numbers_to first last = numbers_from (suc last - first) first
 
 -- The chain of a file, which ended at page `last`, ends at page `now`, by each bound that both are below, and has these rows besides.
-pub record IsGrown (file bound : ℕ) (earlier : List ℕ) (last now : ℕ) (rows : List (List ℕ)) (before : Image) (told : Option Image) : Type 0 where
+pub record IsGrown (file bound : ℕ) (earlier : List ℕ) (last now : ℕ) (rows : List (List ℕ)) (before : Image) (known : Option Image) : Type 0 where
   pub image : Image
-  pub told_still : told ≡ Some image
+  pub still_known : known ≡ Some image
   pub chain : (more : ℕ) → bound ≤ more → now < more → IsChain more (pages_of image file) (earlier ++ numbers_to last now)
   pub came : Came (lying (pages_of before file) (earlier ++ last ∷ [])) rows (lying (pages_of image file) (earlier ++ numbers_to last now))
 
 -- It has this row besides, at this place.
-pub record IsOneMore (file : ℕ) (earlier : List ℕ) (last : ℕ) (place : Place) (row : List ℕ) (before : Image) (told : Option Image) : Type 0 where
+pub record IsOneMore (file : ℕ) (earlier : List ℕ) (last : ℕ) (place : Place) (row : List ℕ) (before : Image) (known : Option Image) : Type 0 where
   pub image : Image
-  pub told_still : told ≡ Some image
+  pub still_known : known ≡ Some image
   pub all : IsPermutation (lying (pages_of image file) (earlier ++ numbers_to last place.page)) ((place, row) ∷ lying (pages_of before file) (earlier ++ last ∷ []))
 
 -- The file has so many pages, from page 0 on, one behind the other on a chain, and on them these rows in this order.
-pub record IsBuilt (file used : ℕ) (rows : List (List ℕ)) (told : Option Image) : Type 0 where
+pub record IsBuilt (file used : ℕ) (rows : List (List ℕ)) (known : Option Image) : Type 0 where
   pub image : Image
-  pub told_still : told ≡ Some image
+  pub still_known : known ≡ Some image
   pub chain : IsChain used (pages_of image file) (numbers_from used 0)
   pub bytes : bytes_of (lying (pages_of image file) (numbers_from used 0)) ≡ rows
 

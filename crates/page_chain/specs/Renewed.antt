@@ -16,9 +16,9 @@ pub record AllLie (pages : Pages) (numbers : List ℕ) (going : List (List ℕ))
   pub are_there : list_all (is_among (bytes_of (lying pages numbers))) going ≡ true
 
 -- The chain of a file, which ended at page `last`, ends at page `now`; these rows went from it and those came, and every other row has the place that it had.
-pub record IsRenewed (file bound : ℕ) (earlier : List ℕ) (last now : ℕ) (going coming : List (List ℕ)) (before : Image) (told : Option Image) : Type 0 where
+pub record IsRenewed (file bound : ℕ) (earlier : List ℕ) (last now : ℕ) (going coming : List (List ℕ)) (before : Image) (known : Option Image) : Type 0 where
   pub image : Image
-  pub told_still : told ≡ Some image
+  pub still_known : known ≡ Some image
   pub chain : (more : ℕ) → bound ≤ more → now < more → IsChain more (pages_of image file) (earlier ++ numbers_to last now)
   pub came : Came (staying going (lying (pages_of before file) (earlier ++ last ∷ []))) coming (lying (pages_of image file) (earlier ++ numbers_to last now))
 
@@ -28,8 +28,8 @@ WentFrom None row before now = (is_among (bytes_of before) row ≡ false) × (no
 WentFrom (Some at) row before now = IsPermutation before ((at, row) ∷ now)
 
 -- The chain of a file is as it was, but that such a row went from it.
-pub record TookOne (file bound : ℕ) (numbers : List ℕ) (row : List ℕ) (place : Option Place) (before : Image) (told : Option Image) : Type 0 where
+pub record TookOne (file bound : ℕ) (numbers : List ℕ) (row : List ℕ) (place : Option Place) (before : Image) (known : Option Image) : Type 0 where
   pub image : Image
-  pub told_still : told ≡ Some image
+  pub still_known : known ≡ Some image
   pub chain : IsChain bound (pages_of image file) numbers
   pub took : WentFrom place row (lying (pages_of before file) numbers) (lying (pages_of image file) numbers)

@@ -5,7 +5,7 @@ use Rattle.calculus.specs.declared.probe.Place.{Place}
 use Rattle.calculus.specs.declared.value.Domain.{Domain}
 use Rattle.calculus.specs.Rows.{Row}
 use Rattle.calculus.specs.Value.{row_cmp}
-use Rattle.access_traits.specs.Placed.{Placed, rows_of}
+use Rattle.am_traits.specs.Placed.{Placed, rows_of}
 use Rattle.page_cells.specs.RowBytes.{row_in}
 use Rattle.page_chain.specs.Chains.{whole_chain}
 use Rattle.page_chain.specs.Lists.{◌>>=◌, each, once}

@@ -3,15 +3,15 @@
 ghost use Rattle.std.specs.Prelude.{◌≡◌, ◌≤◌, ◌<◌, ◌++◌, ◌^◌, ℕ, List as Items, [], ◌∷◌, length, Some, None, true, IfOk, OnOk, if◌then◌else◌};
 ghost use Rattle.std.specs.Option.{option_copied};
 ghost use Rattle.disk_model.specs.Disk.{Image, RisesUpTo};
-ghost use Rattle.access_traits.specs.Causes.{HasFileCause};
+ghost use Rattle.am_traits.specs.Causes.{HasFileCause};
 ghost use Rattle.page_cells.specs.Page.{IsPage, next_page, slots};
 ghost use Rattle.page_chain.specs.Chains.{NoChain, OffPage, chain};
 ghost use Rattle.page_chain.specs.Found.{Found, in_slot};
 ghost use Rattle.page_chain.specs.Lying.{bytes_of, lying_in, lying_on};
 ghost use Rattle.page_chain.specs.Pages.{page_at, pages_of, next_of, may_follow};
 
-use access_traits::PageStore;
-use am_traits::BaseFault;
+use am_traits::PageStore;
+use base_trait::BaseFault;
 use disk_model::{Addr, Page};
 use memory::{List, OutOfMemory};
 use page_cells::{next_of, page_ok, slot};

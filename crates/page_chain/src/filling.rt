@@ -2,14 +2,14 @@
 
 ghost use Rattle.std.specs.Prelude.{◌≡◌, ◌+◌, ◌^◌, ◌<◌, ◌≤◌, ℕ, List as Rows, [], Some, All, IfOk, OnOk, drop, length, take};
 ghost use Rattle.disk_model.specs.Disk.{Image};
-ghost use Rattle.access_traits.specs.Causes.{HasStoreCause};
-ghost use Rattle.access_traits.specs.Pages.{with_page};
+ghost use Rattle.am_traits.specs.Causes.{HasStoreCause};
+ghost use Rattle.am_traits.specs.Pages.{with_page};
 ghost use Rattle.page_cells.specs.Page.{IsPage, next_page, slots};
-ghost use Rattle.page_chain.specs.Filled.{InHand, IsFilled, IsLinked, ToldLaid};
+ghost use Rattle.page_chain.specs.Filled.{InHand, IsFilled, IsLinked, KnownLaid};
 ghost use Rattle.page_chain.specs.Lying.{IsShort};
 ghost use Rattle.page_chain.specs.Pages.{page_at};
 
-use access_traits::{PageStore, StoreFault};
+use am_traits::{PageStore, StoreFault};
 use disk_model::{Addr, Page};
 use memory::List;
 use page_cells::{fresh_page, put_row, set_next};
@@ -57,7 +57,7 @@ pub(crate) fn turn_page<S: PageStore>(
 
 /// Puts the page in hand, which is full, in its place, and as many of the rows that are left as there is
 /// room for on a fresh one behind it. Answers how many.
-fn lay_page<S: PageStore>(
+fn write_page<S: PageStore>(
     store: &mut S,
     file: u32,
     at: u32,
@@ -80,9 +80,9 @@ fn lay_page<S: PageStore>(
     Ok(fill(page, left))
 }
 
-/// Lays the rows that are left on pages behind the one in hand, which is full. The last of them is in
+/// Writes the rows that are left on pages behind the one in hand, which is full. The last of them is in
 /// hand then; answers its number.
-fn lay_pages<S: PageStore>(
+fn write_pages<S: PageStore>(
     store: &mut S,
     file: u32,
     first: u32,
@@ -102,17 +102,17 @@ fn lay_pages<S: PageStore>(
     let mut at = first;
     let mut left = rows;
     'pages: while !left.is_empty() {
-        let count = lay_page(store, file, at, page, left)?;
+        let count = write_page(store, file, at, page, left)?;
         left = left.split_at(count).1;
         at += 1;
     }
     Ok(at)
 }
 
-/// Lays rows on the pages of a file from this one on, which is in hand and has none behind it: into its
+/// Writes rows on the pages of a file from this one on, which is in hand and has none behind it: into its
 /// room, then on fresh pages, which have the numbers behind it. Each page is put once. Answers the
 /// number of the last.
-pub(crate) fn lay<S: PageStore>(
+pub(crate) fn write_rows<S: PageStore>(
     store: &mut S,
     file: u32,
     first: u32,
@@ -126,12 +126,12 @@ pub(crate) fn lay<S: PageStore>(
     requires room { first + length rows.now < 2 ^ 32 }
     ensures behind { IfOk result (λ now. (first ≤ now) × (now ≤ first + length rows.now)) }
     ensures laid { (m : Image) → S.pages store.old ≡ Some m → IfOk result (λ now.
-        ToldLaid file first now rows.now (with_page (page_at file first) page.old m) (S.pages store.new)) }
+        KnownLaid file first now rows.now (with_page (page_at file first) page.old m) (S.pages store.new)) }
     ensures came { (s : S) → S.came s store.old → S.came s store.new }
     ensures cause { HasStoreCause (S.faults store.old) (S.faults store.new) result }
 {
     let left = rows.split_at(fill(page, rows)).1;
-    let at = lay_pages(store, file, first, page, left)?;
+    let at = write_pages(store, file, first, page, left)?;
     store.put(Addr { file, page: at }, page)?;
     Ok(at)
 }

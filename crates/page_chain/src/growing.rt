@@ -3,8 +3,8 @@
 ghost use Rattle.std.specs.Prelude.{◌≡◌, ◌+◌, ◌-◌, ◌^◌, ◌<◌, ◌≤◌, ℕ, List, [], ◌∷◌, ◌++◌, Some, All, IfOk, OnOk, length};
 ghost use Rattle.calculus.specs.declared.probe.Place.{Place as At};
 ghost use Rattle.disk_model.specs.Disk.{Image};
-ghost use Rattle.access_traits.specs.Causes.{HasFileCause, HasStoreCause};
-ghost use Rattle.access_traits.specs.Pages.{KeepsOthers, with_page};
+ghost use Rattle.am_traits.specs.Causes.{HasFileCause, HasStoreCause};
+ghost use Rattle.am_traits.specs.Pages.{KeepsOthers, with_page};
 ghost use Rattle.page_cells.specs.Page.{IsPage, next_page};
 ghost use Rattle.page_chain.specs.Chains.{IsChain, OffPage};
 ghost use Rattle.page_chain.specs.Filled.{OneLaid};
@@ -13,9 +13,9 @@ ghost use Rattle.page_chain.specs.Lying.{IsShort};
 ghost use Rattle.page_chain.specs.Pages.{page_at, pages_of};
 
 use crate::chains::chain_page;
-use crate::filling::{lay, turn_page};
-use access_traits::{PageStore, StoreFault};
-use am_traits::BaseFault;
+use crate::filling::{turn_page, write_rows};
+use am_traits::{PageStore, StoreFault};
+use base_trait::BaseFault;
 use calculus::Place;
 use disk_model::{Addr, Page};
 use memory::List;
@@ -41,7 +41,7 @@ pub fn extend<S: PageStore>(
 {
     let mut page: Page = [0; 1024];
     chain_page(store, file, last, last as u64 + 1, &mut page)?;
-    let now = lay(store, file, last, &mut page, rows)?;
+    let now = write_rows(store, file, last, &mut page, rows)?;
     Ok(now)
 }
 
@@ -142,6 +142,6 @@ pub fn build<S: PageStore>(store: &mut S, file: u32, rows: &[List<u8>]) -> Resul
 {
     let mut page: Page = [0; 1024];
     fresh_page(&mut page);
-    let last = lay(store, file, 0, &mut page, rows)?;
+    let last = write_rows(store, file, 0, &mut page, rows)?;
     Ok(last + 1)
 }

@@ -2,7 +2,7 @@
 
 ghost use Rattle.std.specs.Prelude.{◌≡◌, ◌+◌, ◌<◌, ◌≤◌, ◌^◌, Some, All, IfOk, OnOk, length, take};
 ghost use Rattle.disk_model.specs.Disk.{Image};
-ghost use Rattle.access_traits.specs.Causes.{HasFileCause};
+ghost use Rattle.am_traits.specs.Causes.{HasFileCause};
 ghost use Rattle.page_cells.specs.Page.{IsPage, next_page};
 ghost use Rattle.page_chain.specs.Chains.{NoChainTo};
 ghost use Rattle.page_chain.specs.Lying.{IsShort};
@@ -13,8 +13,8 @@ use crate::chains::chain_page;
 use crate::going::GoingRows;
 use crate::renewing::renew_page;
 use crate::replacing::Chain;
-use access_traits::PageStore;
-use am_traits::BaseFault;
+use am_traits::PageStore;
+use base_trait::BaseFault;
 use disk_model::{Addr, Page};
 use memory::List;
 

@@ -2,8 +2,8 @@
 
 ghost use Rattle.std.specs.Prelude.{◌≡◌, ◌+◌, ◌-◌, ◌^◌, ◌<◌, ◌≤◌, ℕ, List, [], ◌∷◌, ◌++◌, Some, true, All, IfOk, OnOk, length, take};
 ghost use Rattle.disk_model.specs.Disk.{Image};
-ghost use Rattle.access_traits.specs.Causes.{HasFileCause};
-ghost use Rattle.access_traits.specs.Pages.{KeepsOthers};
+ghost use Rattle.am_traits.specs.Causes.{HasFileCause};
+ghost use Rattle.am_traits.specs.Pages.{KeepsOthers};
 ghost use Rattle.page_chain.specs.Chains.{IsChain, NoChain, NoChainTo, OffPage, starts};
 ghost use Rattle.page_chain.specs.Grown.{IsGrown};
 ghost use Rattle.page_chain.specs.Lying.{IsShort, all_differ, bytes_of, lying};
@@ -15,8 +15,8 @@ use crate::going::GoingRows;
 use crate::growing::extend;
 use crate::passing::{Progress, pass};
 use crate::taking::take_at;
-use access_traits::PageStore;
-use am_traits::BaseFault;
+use am_traits::PageStore;
+use base_trait::BaseFault;
 use calculus::Place;
 use memory::List;
 use std::alloc::Global;

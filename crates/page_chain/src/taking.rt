@@ -3,7 +3,7 @@
 ghost use Rattle.std.specs.Prelude.{◌≡◌, ◌↔◌, ◌<◌, ◌≤◌, ℕ, ◌∷◌, Some, None, false, IsTrue, IfSome, IfNone, IfOk, slice_index_or};
 ghost use Rattle.std.specs.List.Sorted.{IsPermutation};
 ghost use Rattle.disk_model.specs.Disk.{Image};
-ghost use Rattle.access_traits.specs.Causes.{HasFileCause};
+ghost use Rattle.am_traits.specs.Causes.{HasFileCause};
 ghost use Rattle.page_cells.specs.Page.{IsPage, next_page, slots};
 ghost use Rattle.page_chain.specs.Chains.{OffPage};
 ghost use Rattle.page_chain.specs.Lying.{bytes_of, is_among, lying_on, place_of};
@@ -11,8 +11,8 @@ ghost use Rattle.page_chain.specs.Passing.{PageTook};
 
 use crate::chains::chain_page;
 use crate::renewing::LINES;
-use access_traits::PageStore;
-use am_traits::BaseFault;
+use am_traits::PageStore;
+use base_trait::BaseFault;
 use disk_model::{Addr, Page};
 use page_cells::{clear_row, slot};
 

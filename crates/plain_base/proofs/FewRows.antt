@@ -11,7 +11,7 @@ use Rattle.calculus.specs.declared.schema.Attr.{Attr}
 use Rattle.calculus.specs.declared.schema.RelInfo.{RelInfo}
 use Rattle.calculus.specs.Catalogue.{all_entries, relation_row, attribute_row, attribute_rows}
 use Rattle.calculus.specs.Database.{Db, Relation, View, Index, entries}
-use Rattle.calculus.specs.IsDatabase.{IsDatabase, attrs_stand, index_stands}
+use Rattle.calculus.specs.IsDatabase.{IsDatabase, attrs_stand, valid_index}
 use Rattle.calculus.specs.Limits.{most_rows}
 use Rattle.calculus.specs.Rows.{Row, put, set_of}
 use Rattle.calculus.specs.Stored.{rows_at}
@@ -65,7 +65,7 @@ narrow info h = go (is_index info.spec)
     go true = omega arith
     go false = few
 
-narrow_index : (db : Db) (x : Index) → IsTrue (index_stands db x) → IsNarrow x.info
+narrow_index : (db : Db) (x : Index) → IsTrue (valid_index db x) → IsNarrow x.info
 narrow_index db x h = go (is_index x.info.spec) (both (is_index x.info.spec) _ h).0
   where
     rows : List Row
@@ -94,7 +94,7 @@ few_attribute_rows db is =
     = flat_map-append attribute_rows relations (views ++ indexes) ∙ ap (λ rows. flat_map attribute_rows relations ++ rows) (flat_map-append attribute_rows views indexes) in
     let rs = few_of (λ (r : Relation). r.info) (λ r. attrs_stand r.info.attrs) (λ r. narrow r.info) db.relations is.relation_attrs_stand in
     let vs = few_of (λ (v : View). v.info) (λ v. attrs_stand v.info.attrs) (λ v. narrow v.info) db.views is.view_attrs_stand in
-    let xs = few_of (λ (x : Index). x.info) (index_stands db) (narrow_index db) db.indexes is.indexes_stand in
+    let xs = few_of (λ (x : Index). x.info) (valid_index db) (narrow_index db) db.indexes is.indexes_stand in
     omega (
       arith,
       ap length parts,

@@ -14,7 +14,7 @@ use Rattle.calculus.specs.IsDatabase.{IsDatabase, relation_rows_fit, row_fits}
 use Rattle.calculus.specs.Keys.{same_key}
 use Rattle.calculus.specs.Rows.{Row}
 use Rattle.calculus.specs.Stored.{Range, Kept, Viewed, attrs_at, attrs_in, info_at, kept_rows, range_at, range_info, rows_at}
-use Rattle.am_traits.specs.Scans.{Gave, meets, next_meeting}
+use Rattle.base_trait.specs.Scans.{Gave, meets, next_meeting}
 use Rattle.plain_base.specs.Places.{rows_before, rows_from}
 
 -- what is found among things of which all hold has it

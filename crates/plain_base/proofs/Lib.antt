@@ -12,5 +12,5 @@ pub mod NextRow
 pub mod SearchByKey
 pub mod Picked
 pub mod Between
-pub mod Told
+pub mod Known
 pub mod Fitting

@@ -3,7 +3,7 @@ use Rattle.std.proofs.Common.{◌≡◌, ap, ◌∙◌, ℕ, suc, ◌+◌, ◌<�
 use Rattle.std.proofs.lemmas.List.{drop_all}
 use Rattle.calculus.specs.declared.probe.Probe.{Probe}
 use Rattle.calculus.specs.Rows.{Row}
-use Rattle.am_traits.specs.Scans.{meets, next_meeting}
+use Rattle.base_trait.specs.Scans.{meets, next_meeting}
 
 abbrev chosen : Bool → Probe → Row → List Row → Option (Row × List Row)
 chosen b probe row rows = elim b [ true ↦ Some (row, rows) | false ↦ next_meeting probe rows ]

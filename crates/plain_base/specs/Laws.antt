@@ -9,7 +9,7 @@ use Rattle.calculus.specs.IsDatabase.{IsDatabase}
 use Rattle.calculus.specs.Rows.{Row, Ascends, set_of}
 use Rattle.calculus.specs.Stored.{rows_at}
 use Rattle.calculus.proofs.Sets.{same_set, has-set_of, Ascends-nil, Ascends-set_of}
-use Rattle.am_traits.specs.Scans.{IsScan, first_place}
+use Rattle.base_trait.specs.Scans.{IsScan, first_place}
 use Rattle.plain_base.specs.FoundRows.{under_key}
 use Rattle.plain_base.specs.Places.{rows_from}
 
@@ -22,9 +22,9 @@ ascending db key is = under_key Ascends db key is.rows_ascend Ascends-nil (Ascen
 pub set_of_ascending : (rows : List Row) → Ascends rows → set_of rows ≡ rows
 set_of_ascending rows h = same_set (set_of rows) rows (Ascends-set_of rows) h (has-set_of rows)
 
--- what holds of the one database holds of the one that is told
-pub of_told : (P : Db → Type 0) (a b : Db) → Some a ≡ Some b → P a → P b
-of_told P a b e h = subst P (same_Some a b e) h
+-- what holds of the one database holds of the one that is known
+pub of_known : (P : Db → Type 0) (a b : Db) → Some a ≡ Some b → P a → P b
+of_known P a b e h = subst P (same_Some a b e) h
 
 -- from the first place on all rows are left
 pub whole_scan : (db : Db) (key : RelKey) → IsDatabase db → IsScan (rows_at db key) (rows_from db key first_place)

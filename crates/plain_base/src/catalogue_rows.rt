@@ -6,7 +6,7 @@ ghost use Rattle.calculus.specs.Catalogue.{relation_row, attribute_row, attribut
 ghost use Rattle.calculus.specs.Structures.{spec_text};
 ghost use Rattle.calculus.specs.Name.{is_name_byte};
 
-use crate::kept::Known;
+use crate::under_keys::Known;
 use calculus::{Attr, Domain, Kind, Name, OutOfMemory, RelInfo, RelKey, Row, Spec, Text, Value};
 use std::alloc::Global;
 

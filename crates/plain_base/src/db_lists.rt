@@ -2,13 +2,13 @@
 
 ghost use Rattle.std.specs.Prelude.{◌≡◌, []};
 
+mod applies;
 mod asks;
 mod changes;
 mod known;
-mod lays;
 mod rows_asked;
 
-use crate::kept::{Indexed, Stored, Viewed};
+use crate::under_keys::{Indexed, Stored, Viewed};
 use calculus::{Name, Permit, RelKey, Rule};
 use std::alloc::Global;
 use std::marker::Model;

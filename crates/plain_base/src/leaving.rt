@@ -5,8 +5,8 @@ ghost use Rattle.calculus.specs.Change.{without_keys, without_numbers};
 ghost use Rattle.calculus.specs.Keys.{same_key, has_key};
 ghost use Rattle.calculus.specs.Lists.{has_number};
 
-use crate::kept::{Indexed, Known};
 use crate::look_up::{is_among, is_same};
+use crate::under_keys::{Indexed, Known};
 use calculus::{Permit, RelKey, Rule};
 
 /// What has a number among those of its relation.

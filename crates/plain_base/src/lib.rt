@@ -5,7 +5,6 @@ mod catalogue;
 mod catalogue_rows;
 mod db_lists;
 mod db_plain;
-mod kept;
 mod leaving;
 mod look_up;
 mod near;
@@ -13,6 +12,7 @@ mod one_relation;
 mod ordered;
 mod rows;
 mod scanning;
+mod under_keys;
 
 pub(crate) use db_lists::DbLists;
 pub use db_plain::DbPlain;

@@ -6,8 +6,8 @@ ghost use Rattle.std.specs.List.Sorted.{IsStrictlySortedBy};
 ghost use Rattle.calculus.specs.Keys.{same_key, has_key, key_cmp};
 ghost use Rattle.calculus.specs.QueryParts.{vars_of};
 
-use crate::kept::{Indexed, Known, Viewed};
 use crate::ordered::key_order;
+use crate::under_keys::{Indexed, Known, Viewed};
 use calculus::{OutOfMemory, RelInfo, RelKey, TryCopy};
 use std::alloc::Global;
 

@@ -7,9 +7,9 @@ ghost use Rattle.calculus.specs.Database.{Relation};
 ghost use Rattle.calculus.specs.Keys.{key_cmp};
 ghost use Rattle.calculus.specs.Replacement.{with_rows, without_rows};
 
-use crate::kept::Stored;
 use crate::look_up::is_same;
 use crate::rows;
+use crate::under_keys::Stored;
 use calculus::{List, OutOfMemory, RelInfo, RelKey, Row, Spec};
 use std::alloc::Global;
 

@@ -6,7 +6,7 @@ ghost use Rattle.std.specs.declared.cmp.Ordering.{Ordering as Order};
 ghost use Rattle.calculus.specs.Keys.{key_cmp, numbered_cmp};
 ghost use Rattle.calculus.specs.Lists.{insert_by};
 
-use crate::kept::{Indexed, Stored, Viewed};
+use crate::under_keys::{Indexed, Stored, Viewed};
 use calculus::{OutOfMemory, Permit, RelKey, Rule};
 use std::cmp::Ordering;
 

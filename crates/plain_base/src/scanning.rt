@@ -2,7 +2,7 @@
 
 ghost use Rattle.std.specs.Prelude.{◌≡◌, ◌<◌, ◌+◌, ◌^◌, Some, None, drop, length, slice_index_or, IfOk, IfSome, IfNone, OnErr};
 ghost use Rattle.calculus.specs.Rows.{Row as Values};
-ghost use Rattle.am_traits.specs.Scans.{Gave, StaysOver, has_value, meets, next_meeting};
+ghost use Rattle.base_trait.specs.Scans.{Gave, StaysOver, has_value, meets, next_meeting};
 ghost use Rattle.plain_base.specs.Places.{rows_before};
 
 use calculus::{OutOfMemory, Place, Probe, Row, TryCopy, Value};

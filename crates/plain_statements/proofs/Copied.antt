@@ -33,42 +33,42 @@ module _ (db : Db) (files : Files) (user : List ℕ) (work : Utility) where
   unfolding utility_effect
   into_effect c = ap (utility_effect db files user) c.is
 
-  module _ (now : Db) (told : Option Files) (e : told ≡ Some files) (reply : Reply) where
-    -- the change is laid
+  module _ (now : Db) (known : Option Files) (e : known ≡ Some files) (reply : Reply) where
+    -- the change is applied
     pub from_done : (c : IsCopy work true) (change : DbChange) → copied_from db files user c.rel c.columns c.constant ≡ Ok change
-        → change_effect db files (Ok change) ≡ effect_of now files reply → Leaves (utility_effect db files user work) now told reply
-    from_done c change is h = record { files = files; told_so = e; is = from_effect c ∙ ap (change_effect db files) is ∙ h }
+        → change_effect db files (Ok change) ≡ effect_of now files reply → Leaves (utility_effect db files user work) now known reply
+    from_done c change is h = record { files = files; known_so = e; is = from_effect c ∙ ap (change_effect db files) is ∙ h }
 
     from_refused : (c : IsCopy work true) (r : Refusal) → copied_from db files user c.rel c.columns c.constant ≡ Err r → reply ≡ Refused r
-        → Leaves (utility_effect db files user work) db told reply
-    from_refused c r is h = record { files = files; told_so = e; is = from_effect c ∙ ap (change_effect db files) is ∙ ap (effect_of db files) (sym h) }
+        → Leaves (utility_effect db files user work) db known reply
+    from_refused c r is h = record { files = files; known_so = e; is = from_effect c ∙ ap (change_effect db files) is ∙ ap (effect_of db files) (sym h) }
 
 -- what a fault of a copy from a file is answered with
-pub from_answered : (db : Db) (files : Files) (user : List ℕ) (work : Utility) (told : Option Files) → told ≡ Some files → (c : IsCopy work true) (fault : CopyFault)
-    → Refuses (λ r. copied_from db files user c.rel c.columns c.constant ≡ Err r) fault → IfOk (copy_answer fault) (λ reply. Leaves (utility_effect db files user work) db told reply)
-from_answered db files user work told e c (copy.No number) h = from_refused db files user work db told e (Refused (refusal number)) c (refusal number) h refl
-from_answered db files user work told e c (copy.BadRow row) h = from_refused db files user work db told e (Refused (bad_row row)) c (bad_row row) h refl
-from_answered db files user work told e c copy.NoFile h = from_refused db files user work db told e (Refused (refusal 32)) c (refusal 32) h refl
-from_answered db files user work told e c copy.Shelf h = tt
-from_answered db files user work told e c (copy.Base fault) h = tt
-from_answered db files user work told e c copy.OutOfMemory h = tt
+pub from_answered : (db : Db) (files : Files) (user : List ℕ) (work : Utility) (known : Option Files) → known ≡ Some files → (c : IsCopy work true) (fault : CopyFault)
+    → Refuses (λ r. copied_from db files user c.rel c.columns c.constant ≡ Err r) fault → IfOk (copy_answer fault) (λ reply. Leaves (utility_effect db files user work) db known reply)
+from_answered db files user work known e c (copy.No number) h = from_refused db files user work db known e (Refused (refusal number)) c (refusal number) h refl
+from_answered db files user work known e c (copy.BadRow row) h = from_refused db files user work db known e (Refused (bad_row row)) c (bad_row row) h refl
+from_answered db files user work known e c copy.NoFile h = from_refused db files user work db known e (Refused (refusal 32)) c (refusal 32) h refl
+from_answered db files user work known e c copy.Shelf h = tt
+from_answered db files user work known e c (copy.Base fault) h = tt
+from_answered db files user work known e c copy.OutOfMemory h = tt
 
-module _ (db : Db) (files : Files) (user : List ℕ) (work : Utility) (told : Option Files) (c : IsCopy work false) where
+module _ (db : Db) (files : Files) (user : List ℕ) (work : Utility) (known : Option Files) (c : IsCopy work false) where
   -- the file is stored
-  pub into_done : (bytes : List ℕ) → copied_into db user c.rel c.columns ≡ Ok bytes → told ≡ Some (stored files (file_of_constant c.constant) bytes)
-      → Leaves (utility_effect db files user work) db told Done
+  pub into_done : (bytes : List ℕ) → copied_into db user c.rel c.columns ≡ Ok bytes → known ≡ Some (stored files (file_of_constant c.constant) bytes)
+      → Leaves (utility_effect db files user work) db known Done
   into_done bytes is now = record {
     files = stored files (file_of_constant c.constant) bytes;
-    told_so = now;
+    known_so = now;
     is = into_effect db files user work c ∙ ap (file_effect db files (file_of_constant c.constant)) is;
   }
 
-  into_refused : (r : Refusal) → copied_into db user c.rel c.columns ≡ Err r → told ≡ Some files → Leaves (utility_effect db files user work) db told (Refused r)
-  into_refused r is now = record { files = files; told_so = now; is = into_effect db files user work c ∙ ap (file_effect db files (file_of_constant c.constant)) is }
+  into_refused : (r : Refusal) → copied_into db user c.rel c.columns ≡ Err r → known ≡ Some files → Leaves (utility_effect db files user work) db known (Refused r)
+  into_refused r is now = record { files = files; known_so = now; is = into_effect db files user work c ∙ ap (file_effect db files (file_of_constant c.constant)) is }
 
   -- what a fault of a copy into a file is answered with
-  pub into_answered : (fault : CopyFault) → IsStored (copied_into db user c.rel c.columns) (file_of_constant c.constant) files told (Err fault)
-      → IfOk (copy_answer fault) (λ reply. Leaves (utility_effect db files user work) db told reply)
+  pub into_answered : (fault : CopyFault) → IsStored (copied_into db user c.rel c.columns) (file_of_constant c.constant) files known (Err fault)
+      → IfOk (copy_answer fault) (λ reply. Leaves (utility_effect db files user work) db known reply)
   into_answered (copy.No number) h = into_refused (refusal number) h.0 h.1
   into_answered (copy.BadRow row) h = into_refused (bad_row row) h.0 h.1
   into_answered copy.NoFile h = absurd h
@@ -78,36 +78,36 @@ module _ (db : Db) (files : Files) (user : List ℕ) (work : Utility) (told : Op
 
 -- ---- causes
 
-copy_causes : {T : Type 0} (told : Option Db) (before now shelf_before shelf_now : ℕ) (fault : CopyFault) → HasCopyCause {T = T} told before now shelf_before shelf_now (Err fault)
+copy_causes : {T : Type 0} (known : Option Db) (before now shelf_before shelf_now : ℕ) (fault : CopyFault) → HasCopyCause {T = T} known before now shelf_before shelf_now (Err fault)
     → HasShelfCause shelf_before shelf_now (copy_answer fault)
-copy_causes told before now shelf_before shelf_now (copy.No number) h = record { later = h.shelf_later; failed = λ e. absurd (cc e); otherwise = λ n. h.otherwise (λ e. absurd (cc e)) }
-copy_causes told before now shelf_before shelf_now (copy.BadRow row) h = record { later = h.shelf_later; failed = λ e. absurd (cc e); otherwise = λ n. h.otherwise (λ e. absurd (cc e)) }
-copy_causes told before now shelf_before shelf_now copy.NoFile h = record { later = h.shelf_later; failed = λ e. absurd (cc e); otherwise = λ n. h.otherwise (λ e. absurd (cc e)) }
-copy_causes told before now shelf_before shelf_now copy.Shelf h = record { later = h.shelf_later; failed = λ e. h.shelf refl; otherwise = λ n. absurd (n refl) }
-copy_causes told before now shelf_before shelf_now (copy.Base fault) h = record { later = h.shelf_later; failed = λ e. absurd (cc e); otherwise = λ n. h.otherwise (λ e. absurd (cc e)) }
-copy_causes told before now shelf_before shelf_now copy.OutOfMemory h = record { later = h.shelf_later; failed = λ e. absurd (cc e); otherwise = λ n. h.otherwise (λ e. absurd (cc e)) }
+copy_causes known before now shelf_before shelf_now (copy.No number) h = record { later = h.shelf_later; failed = λ e. absurd (cc e); otherwise = λ n. h.otherwise (λ e. absurd (cc e)) }
+copy_causes known before now shelf_before shelf_now (copy.BadRow row) h = record { later = h.shelf_later; failed = λ e. absurd (cc e); otherwise = λ n. h.otherwise (λ e. absurd (cc e)) }
+copy_causes known before now shelf_before shelf_now copy.NoFile h = record { later = h.shelf_later; failed = λ e. absurd (cc e); otherwise = λ n. h.otherwise (λ e. absurd (cc e)) }
+copy_causes known before now shelf_before shelf_now copy.Shelf h = record { later = h.shelf_later; failed = λ e. h.shelf refl; otherwise = λ n. absurd (n refl) }
+copy_causes known before now shelf_before shelf_now (copy.Base fault) h = record { later = h.shelf_later; failed = λ e. absurd (cc e); otherwise = λ n. h.otherwise (λ e. absurd (cc e)) }
+copy_causes known before now shelf_before shelf_now copy.OutOfMemory h = record { later = h.shelf_later; failed = λ e. absurd (cc e); otherwise = λ n. h.otherwise (λ e. absurd (cc e)) }
 
 -- a fault of the shelf is one of the copy
-pub copy_caused : {T : Type 0} (told : Option Db) (before now shelf_before shelf_now : ℕ) (fault : CopyFault) → HasCopyCause {T = T} told before now shelf_before shelf_now (Err fault)
+pub copy_caused : {T : Type 0} (known : Option Db) (before now shelf_before shelf_now : ℕ) (fault : CopyFault) → HasCopyCause {T = T} known before now shelf_before shelf_now (Err fault)
     → (s : Result Reply ShelfFault) → s ≡ copy_answer fault → HasShelfCause shelf_before shelf_now s
-copy_caused told before now shelf_before shelf_now fault h s is =
-    subst (λ (y : Result Reply ShelfFault). HasShelfCause shelf_before shelf_now y) (sym is) (copy_causes told before now shelf_before shelf_now fault h)
+copy_caused known before now shelf_before shelf_now fault h s is =
+    subst (λ (y : Result Reply ShelfFault). HasShelfCause shelf_before shelf_now y) (sym is) (copy_causes known before now shelf_before shelf_now fault h)
 
 -- what holds of what a fault is answered with
 pub answer_is : (P : Reply → Type 0) (fault : CopyFault) → IfOk (copy_answer fault) P → (s : Result Reply ShelfFault) → s ≡ copy_answer fault → IfOk s P
 answer_is P fault h s is = subst (λ (y : Result Reply ShelfFault). IfOk y P) (sym is) h
 
 -- where the database is the same, so is what stands after nothing was changed
-pub same_left : (old between : Db) → Some between ≡ Some old → (files : Files) (user : List ℕ) (work : Utility) (told : Option Files) (s : Result Reply ShelfFault)
-    → IfOk s (λ reply. Leaves (utility_effect old files user work) old told reply) → IfOk s (λ reply. Leaves (utility_effect old files user work) between told reply)
-same_left old between same files user work told s h =
-    subst (λ db. IfOk s (λ reply. Leaves (utility_effect old files user work) db told reply)) (sym (same_Some between old same)) h
+pub same_left : (old between : Db) → Some between ≡ Some old → (files : Files) (user : List ℕ) (work : Utility) (known : Option Files) (s : Result Reply ShelfFault)
+    → IfOk s (λ reply. Leaves (utility_effect old files user work) old known reply) → IfOk s (λ reply. Leaves (utility_effect old files user work) between known reply)
+same_left old between same files user work known s h =
+    subst (λ db. IfOk s (λ reply. Leaves (utility_effect old files user work) db known reply)) (sym (same_Some between old same)) h
 
-pub left_same : (old between : Db) → Some between ≡ Some old → (files : Files) (user : List ℕ) (work : Utility) (told : Option Files) (reply : Reply)
-    → Leaves (utility_effect old files user work) old told reply → Leaves (utility_effect old files user work) between told reply
-left_same old between same files user work told reply h = subst (λ db. Leaves (utility_effect old files user work) db told reply) (sym (same_Some between old same)) h
+pub left_same : (old between : Db) → Some between ≡ Some old → (files : Files) (user : List ℕ) (work : Utility) (known : Option Files) (reply : Reply)
+    → Leaves (utility_effect old files user work) old known reply → Leaves (utility_effect old files user work) between known reply
+left_same old between same files user work known reply h = subst (λ db. Leaves (utility_effect old files user work) db known reply) (sym (same_Some between old same)) h
 
--- a change that is laid where the database is the same is laid here
+-- a change that is applied where the database is the same is applied here
 pub laid_same : (old between now : Db) → Some between ≡ Some old → (files : Files) (change : DbChange) (reply : Reply)
     → change_effect between files (Ok change) ≡ effect_of now files reply → change_effect old files (Ok change) ≡ effect_of now files reply
 laid_same old between now same files change reply h = ap (λ db. change_effect db files (Ok change)) (sym (same_Some between old same)) ∙ h

@@ -19,7 +19,7 @@ use Rattle.calculus.specs.declared.request.Utility.TheVariants as utility
 use Rattle.calculus.specs.Change.{IsLawful}
 use Rattle.calculus.specs.Database.{Db}
 use Rattle.calculus.specs.Replacement.{updated}
-use Rattle.calculus.specs.Who.{Free}
+use Rattle.calculus.specs.Who.{Unrestricted}
 use Rattle.quel_meaning.specs.Copying.{refusal}
 use Rattle.quel_meaning.specs.Meaning.{answer_reply, change_effect, numbered_effect, tree_meaning, utility_effect}
 use Rattle.quel_meaning.specs.Planned.{planned}
@@ -58,7 +58,7 @@ work_effect db files user (utility.Copy rel columns from file) h = absurd (cc h)
 work_effect db files user work h = refl
 
 module _ (old between : Db) (files : Files) (user : List ℕ) (work : Utility) (none : is_copy work ≡ false) (kept : Some between ≡ Some old) where
-  -- the change is planned, and then laid
+  -- the change is planned, and then applied
   pub work_laid : (now : Db) (change : DbChange) → planned old user work ≡ Ok change → (reply : Reply) → change_effect between files (Ok change) ≡ effect_of now files reply
       → utility_effect old files user work ≡ effect_of now files reply
   work_laid now change e reply h =
@@ -69,37 +69,37 @@ module _ (old between : Db) (files : Files) (user : List ℕ) (work : Utility) (
   pub work_refused : (fault : Stopped) (number : ℕ) → fault ≡ No number
       → Plans (λ change. (planned old user work ≡ Ok change) × IsLawful old change) (λ number. planned old user work ≡ Err number) (Err fault)
       → (reply : Reply) → reply ≡ Refused (refusal number) → utility_effect old files user work ≡ effect_of between files reply
-  work_refused fault number is told reply h =
-      let e = subst (λ f. Plans (λ change. (planned old user work ≡ Ok change) × IsLawful old change) (λ number. planned old user work ≡ Err number) (Err f)) is told in
+  work_refused fault number is known reply h =
+      let e = subst (λ f. Plans (λ change. (planned old user work ≡ Ok change) × IsLawful old change) (λ number. planned old user work ≡ Err number) (Err f)) is known in
       work_effect old files user work none
       ∙ ap (numbered_effect old files) e ∙ (λ i. effect_of (sym (same_Some between old kept) i) files (sym h i))
 
 -- ---- trees
 
-module _ (old now : Db) (files : Files) (told : Option Files) (e : told ≡ Some files) (user : List ℕ) (tree : Checked) where
-  pub answer_done : (asked shown : List Asked) → tree ≡ checked.Answer asked → shown ≡ asked → Some now ≡ Some old → (reply : Reply) → reply ≡ answer_reply old Free shown
-      → Leaves (tree_meaning old files Free user tree) now told reply
+module _ (old now : Db) (files : Files) (known : Option Files) (e : known ≡ Some files) (user : List ℕ) (tree : Checked) where
+  pub answer_done : (asked shown : List Asked) → tree ≡ checked.Answer asked → shown ≡ asked → Some now ≡ Some old → (reply : Reply) → reply ≡ answer_reply old Unrestricted shown
+      → Leaves (tree_meaning old files Unrestricted user tree) now known reply
   unfolding tree_meaning
   answer_done asked shown is same kept reply h = record {
     files = files;
-    told_so = e;
-    is = ap (tree_meaning old files Free user) is
-        ∙ (λ i. effect_of (sym (same_Some now old kept) i) files (answer_reply old Free (sym same i))) ∙ ap (effect_of now files) (sym h);
+    known_so = e;
+    is = ap (tree_meaning old files Unrestricted user) is
+        ∙ (λ i. effect_of (sym (same_Some now old kept) i) files (answer_reply old Unrestricted (sym same i))) ∙ ap (effect_of now files) (sym h);
   }
 
-  pub update_done : (u : Update) → tree ≡ checked.Update u → (reply : Reply) → numbered_effect old files (updated old Free u) ≡ effect_of now files reply
-      → Leaves (tree_meaning old files Free user tree) now told reply
+  pub update_done : (u : Update) → tree ≡ checked.Update u → (reply : Reply) → numbered_effect old files (updated old Unrestricted u) ≡ effect_of now files reply
+      → Leaves (tree_meaning old files Unrestricted user tree) now known reply
   unfolding tree_meaning
-  update_done u is reply h = record { files = files; told_so = e; is = ap (tree_meaning old files Free user) is ∙ h }
+  update_done u is reply h = record { files = files; known_so = e; is = ap (tree_meaning old files Unrestricted user) is ∙ h }
 
 -- what a utility that asks no shelf does leaves the files
-pub plan_left : (old now : Db) (files : Files) (told : Option Files) → told ≡ Some files → (user : List ℕ) (work : Utility) (reply : Reply)
-    → utility_effect old files user work ≡ effect_of now files reply → Leaves (utility_effect old files user work) now told reply
-plan_left old now files told e user work reply h = record { files = files; told_so = e; is = h }
+pub plan_left : (old now : Db) (files : Files) (known : Option Files) → known ≡ Some files → (user : List ℕ) (work : Utility) (reply : Reply)
+    → utility_effect old files user work ≡ effect_of now files reply → Leaves (utility_effect old files user work) now known reply
+plan_left old now files known e user work reply h = record { files = files; known_so = e; is = h }
 
 -- what the utilities do is what their tree does
-pub utility_done : (old now : Db) (files : Files) (told : Option Files) (user : List ℕ) (tree : Checked) (work : Utility) → tree ≡ checked.Utility work → (reply : Reply)
-    → Leaves (utility_effect old files user work) now told reply → Leaves (tree_meaning old files Free user tree) now told reply
+pub utility_done : (old now : Db) (files : Files) (known : Option Files) (user : List ℕ) (tree : Checked) (work : Utility) → tree ≡ checked.Utility work → (reply : Reply)
+    → Leaves (utility_effect old files user work) now known reply → Leaves (tree_meaning old files Unrestricted user tree) now known reply
 unfolding tree_meaning
-utility_done old now files told user tree work is reply h =
-    record { files = h.files; told_so = h.told_so; is = ap (tree_meaning old files Free user) is ∙ h.is }
+utility_done old now files known user tree work is reply h =
+    record { files = h.files; known_so = h.known_so; is = ap (tree_meaning old files Unrestricted user) is ∙ h.is }

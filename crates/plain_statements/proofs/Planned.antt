@@ -19,7 +19,7 @@ use Rattle.plan_laws.specs.Fitting.{is_copy}
 use Rattle.plan_laws.proofs.Created.{nothing_ranges}
 use Rattle.update_change.specs.Changes.{MakesNew}
 use Rattle.calculus.specs.Replacement.{updated}
-use Rattle.calculus.specs.Who.{Free}
+use Rattle.calculus.specs.Who.{Unrestricted}
 use Rattle.quel_meaning.specs.SpelledTree.{made_key_is_spelled, update_is_spelled}
 use Rattle.plan_laws.proofs.FitUtilities.{new_is_free, fitting_plan_lawful}
 use Rattle.update_laws.proofs.Fitted.{fitting_update_lawful}
@@ -53,9 +53,9 @@ module _ (db : Db) (u : Update) where
   update_answered doable = can_be_answered db u.query (left _ _ doable.fits)
 
   pub update_lawful : IsDatabase db → IsDoableUpdate db u → (result : Result DbChange Stopped)
-      → Plans (λ change. updated db Free u ≡ Ok change) (λ number. updated db Free u ≡ Err number) result
-      → Plans (λ change. (updated db Free u ≡ Ok change) × IsLawful db change) (λ number. updated db Free u ≡ Err number) result
-  update_lawful is doable (Ok change) h = (h, fitting_update_lawful (kept_alone db) db Free u change is doable.spelled doable.fits h)
+      → Plans (λ change. updated db Unrestricted u ≡ Ok change) (λ number. updated db Unrestricted u ≡ Err number) result
+      → Plans (λ change. (updated db Unrestricted u ≡ Ok change) × IsLawful db change) (λ number. updated db Unrestricted u ≡ Err number) result
+  update_lawful is doable (Ok change) h = (h, fitting_update_lawful (kept_alone db) db Unrestricted u change is doable.spelled doable.fits h)
   update_lawful is doable (Err (No number)) h = h
   update_lawful is doable (Err (Base fault)) h = tt
   update_lawful is doable (Err OutOfMemory) h = tt

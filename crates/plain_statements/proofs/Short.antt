@@ -7,9 +7,9 @@ use Rattle.calculus.specs.declared.request.Update.{Update}
 use Rattle.calculus.specs.declared.request.Utility.{Utility}
 use Rattle.calculus.specs.Database.{Db}
 use Rattle.calculus.specs.Term.{Env}
-use Rattle.am_traits.specs.Causes.{MayCome}
-use Rattle.am_traits.specs.declared.fault.BaseFault.{BaseFault}
-use Rattle.am_traits.specs.declared.fault.BaseFault.TheVariants as faults
+use Rattle.base_trait.specs.Causes.{MayCome}
+use Rattle.base_trait.specs.declared.fault.BaseFault.{BaseFault}
+use Rattle.base_trait.specs.declared.fault.BaseFault.TheVariants as faults
 use Rattle.copy_util.specs.Causes as copying
 use Rattle.copy_util.specs.declared.fault.CopyFault.{CopyFault}
 use Rattle.copy_util.specs.declared.fault.CopyFault.TheVariants as copy
@@ -34,43 +34,43 @@ use Rattle.plain_statements.specs.Stopping.{HasStopCause, IsShort, IsShortCopy, 
 
 -- ---- a fault of a part stops the statement where it may come
 
-pub pair_caused : (u : Update) (told : Option Db) (before now : ℕ) (fault : PairFault) → pairing.MayFailIn u told before now fault → StopsBy told before now (pair_stop fault)
-pair_caused u told before now (pair.NotFit row) may = may.0
-pair_caused u told before now (pair.Query (query.NoValue at)) may = may.0
-pair_caused u told before now (pair.Query (query.Base fault)) may = may
-pair_caused u told before now (pair.Query query.OutOfMemory) may = may
-pair_caused u told before now pair.OutOfMemory may = may
+pub pair_caused : (u : Update) (known : Option Db) (before now : ℕ) (fault : PairFault) → pairing.MayFailIn u known before now fault → StopsBy known before now (pair_stop fault)
+pair_caused u known before now (pair.NotFit row) may = may.0
+pair_caused u known before now (pair.Query (query.NoValue at)) may = may.0
+pair_caused u known before now (pair.Query (query.Base fault)) may = may
+pair_caused u known before now (pair.Query query.OutOfMemory) may = may
+pair_caused u known before now pair.OutOfMemory may = may
 
-pub change_caused : (u : Update) (ps : List Pair) (told : Option Db) (before now : ℕ) (fault : UpdateFault) → changing.MayFail u ps told before now fault → StopsBy told before now (change_stop fault)
-change_caused u ps told before now (change.Contended old first second) may = may.0
-change_caused u ps told before now (change.TooMany count) may = may.0
-change_caused u ps told before now (change.Base fault) may = may
-change_caused u ps told before now change.OutOfMemory may = may
+pub change_caused : (u : Update) (ps : List Pair) (known : Option Db) (before now : ℕ) (fault : UpdateFault) → changing.MayFail u ps known before now fault → StopsBy known before now (change_stop fault)
+change_caused u ps known before now (change.Contended old first second) may = may.0
+change_caused u ps known before now (change.TooMany count) may = may.0
+change_caused u ps known before now (change.Base fault) may = may
+change_caused u ps known before now change.OutOfMemory may = may
 
-pub utility_caused : (user : List ℕ) (u : Utility) (told : Option Db) (before now : ℕ) (fault : UtilFault) → planning.MayFail user u told told before now fault → StopsBy told before now (utility_stop fault)
-utility_caused user u told before now (utility.No number) may = may.0
-utility_caused user u told before now (utility.Base fault) may = may
-utility_caused user u told before now utility.OutOfMemory may = may
+pub utility_caused : (user : List ℕ) (u : Utility) (known : Option Db) (before now : ℕ) (fault : UtilFault) → planning.MayFail user u known known before now fault → StopsBy known before now (utility_stop fault)
+utility_caused user u known before now (utility.No number) may = may.0
+utility_caused user u known before now (utility.Base fault) may = may
+utility_caused user u known before now utility.OutOfMemory may = may
 
-pub check_caused : (T : Type 0) (told : Option Db) (before now : ℕ) (fault : CheckFault) → checking.IsCaused {T = T} told before now (Err fault) → StopsBy told before now (check_stop fault)
-check_caused T told before now (check.No number) may = may
-check_caused T told before now (check.Base fault) may = may
-check_caused T told before now check.OutOfMemory may = may
+pub check_caused : (T : Type 0) (known : Option Db) (before now : ℕ) (fault : CheckFault) → checking.IsCaused {T = T} known before now (Err fault) → StopsBy known before now (check_stop fault)
+check_caused T known before now (check.No number) may = may
+check_caused T known before now (check.Base fault) may = may
+check_caused T known before now check.OutOfMemory may = may
 
-query_caused : (lacking : Db → Env → Type 0) (told : Option Db) (before now : ℕ) (fault : QueryFault) → asking.MayFail lacking told before now fault → StopsBy told before now (query_stop fault)
-query_caused lacking told before now (query.NoValue at) may = may.0
-query_caused lacking told before now (query.Base fault) may = may
-query_caused lacking told before now query.OutOfMemory may = may
+query_caused : (lacking : Db → Env → Type 0) (known : Option Db) (before now : ℕ) (fault : QueryFault) → asking.MayFail lacking known before now fault → StopsBy known before now (query_stop fault)
+query_caused lacking known before now (query.NoValue at) may = may.0
+query_caused lacking known before now (query.Base fault) may = may
+query_caused lacking known before now query.OutOfMemory may = may
 
 -- where nothing is made, what is said of what stopped it says all
-pub stopped_by : {T : Type 0} {Q : Stopped → Type 0} (told : Option Db) (before now : ℕ) (r : Result T Stopped) → IsErr r × IsErrAnd r Q → before ≤ now → ((s : Stopped) → Q s → StopsBy told before now s)
-    → HasStopCause {T = T} told before now r
-stopped_by told before now (Ok x) h later f = absurd (cc h.0)
-stopped_by told before now (Err s) h later f = record { later = later; caused = f s h.1 }
+pub stopped_by : {T : Type 0} {Q : Stopped → Type 0} (known : Option Db) (before now : ℕ) (r : Result T Stopped) → IsErr r × IsErrAnd r Q → before ≤ now → ((s : Stopped) → Q s → StopsBy known before now s)
+    → HasStopCause {T = T} known before now r
+stopped_by known before now (Ok x) h later f = absurd (cc h.0)
+stopped_by known before now (Err s) h later f = record { later = later; caused = f s h.1 }
 
 -- one call behind another that answered, by which the database stayed
-pub stopped_later : {T : Type 0} (told then : Option Db) (before mid now : ℕ) (r : Result T Stopped) → then ≡ told → mid ≡ before → HasStopCause {T = T} then mid now r → HasStopCause {T = T} told before now r
-stopped_later {T = T} told then before mid now r same counted h =
+pub stopped_later : {T : Type 0} (known then : Option Db) (before mid now : ℕ) (r : Result T Stopped) → then ≡ known → mid ≡ before → HasStopCause {T = T} then mid now r → HasStopCause {T = T} known before now r
+stopped_later {T = T} known then before mid now r same counted h =
     subst (λ t. HasStopCause {T = T} t before now r) same (subst (λ n. HasStopCause {T = T} then n now r) counted h)
 
 -- ---- a database in memory

@@ -10,7 +10,7 @@ use Rattle.calculus.specs.declared.reply.Reply.TheVariants.{Refused}
 use Rattle.calculus.specs.Database.{Db}
 use Rattle.calculus.specs.Limits.{most_rows}
 use Rattle.calculus.specs.Replacement.{updated}
-use Rattle.calculus.specs.Who.{Free}
+use Rattle.calculus.specs.Who.{Unrestricted}
 use Rattle.ovqp.specs.declared.fault.QueryFault.{QueryFault}
 use Rattle.ovqp.specs.declared.fault.QueryFault.TheVariants as query
 use Rattle.stage_proc.specs.declared.fault.PairFault.{PairFault}
@@ -44,34 +44,34 @@ refused_by made refused (Err (Base fault)) h f = tt
 refused_by made refused (Err OutOfMemory) h f = tt
 
 -- what refuses the change of an update
-pub change_stops : (db : Db) (u : Update) (ps : List Pair) (told : Option Db) (before now : ℕ) (fault : UpdateFault)
-    → told ≡ Some db → MakesNew db u → ArePairs db u ps → changing.MayFail u ps told before now fault → RefusedBy (λ number. updated db Free u ≡ Err number) (change_stop fault)
-change_stops db u ps told before now (change.Contended old first second) e new are may = contended_refused db u ps are may.1
-change_stops db u ps told before now (change.TooMany count) e new are may =
+pub change_stops : (db : Db) (u : Update) (ps : List Pair) (known : Option Db) (before now : ℕ) (fault : UpdateFault)
+    → known ≡ Some db → MakesNew db u → ArePairs db u ps → changing.MayFail u ps known before now fault → RefusedBy (λ number. updated db Unrestricted u ≡ Err number) (change_stop fault)
+change_stops db u ps known before now (change.Contended old first second) e new are may = contended_refused db u ps are may.1
+change_stops db u ps known before now (change.TooMany count) e new are may =
     let many = may.2 db e new in many_refused db u ps are may.1 (subst (λ n. most_rows < n) many.0 many.1)
-change_stops db u ps told before now (change.Base fault) e new are may = tt
-change_stops db u ps told before now change.OutOfMemory e new are may = tt
+change_stops db u ps known before now (change.Base fault) e new are may = tt
+change_stops db u ps known before now change.OutOfMemory e new are may = tt
 
 -- what refuses its pairs
-pub pair_stops : (db : Db) (u : Update) (told : Option Db) (before now : ℕ) (fault : PairFault)
-    → told ≡ Some db → pairing.MayFailIn u told before now fault → RefusedBy (λ number. updated db Free u ≡ Err number) (pair_stop fault)
-pair_stops db u told before now (pair.NotFit row) e may = let unfit = may.1 db e in unfit_refused db u unfit.none_lacks unfit.unfit
-pair_stops db u told before now (pair.Query (query.NoValue at)) e may = lacking_refused db u (may.1 db e).somewhere
-pair_stops db u told before now (pair.Query (query.Base fault)) e may = tt
-pair_stops db u told before now (pair.Query query.OutOfMemory) e may = tt
-pair_stops db u told before now pair.OutOfMemory e may = tt
+pub pair_stops : (db : Db) (u : Update) (known : Option Db) (before now : ℕ) (fault : PairFault)
+    → known ≡ Some db → pairing.MayFailIn u known before now fault → RefusedBy (λ number. updated db Unrestricted u ≡ Err number) (pair_stop fault)
+pair_stops db u known before now (pair.NotFit row) e may = let unfit = may.1 db e in unfit_refused db u unfit.none_lacks unfit.unfit
+pair_stops db u known before now (pair.Query (query.NoValue at)) e may = lacking_refused db u (may.1 db e).somewhere
+pair_stops db u known before now (pair.Query (query.Base fault)) e may = tt
+pair_stops db u known before now (pair.Query query.OutOfMemory) e may = tt
+pair_stops db u known before now pair.OutOfMemory e may = tt
 
 -- what refuses queries
-query_stops : (db : Db) (asked : List Asked) (told : Option Db) (before now : ℕ) (fault : QueryFault) → told ≡ Some db → asking.MayFail (λ db at. asking.OneLacksIn db asked at) told before now fault
-    → RefusedBy (λ number. Refused (refusal number) ≡ answer_reply db Free asked) (query_stop fault)
-query_stops db asked told before now (query.NoValue at) e may = queries_lack db asked (may.1 db e).somewhere
-query_stops db asked told before now (query.Base fault) e may = tt
-query_stops db asked told before now query.OutOfMemory e may = tt
+query_stops : (db : Db) (asked : List Asked) (known : Option Db) (before now : ℕ) (fault : QueryFault) → known ≡ Some db → asking.MayFail (λ db at. asking.OneLacksIn db asked at) known before now fault
+    → RefusedBy (λ number. Refused (refusal number) ≡ answer_reply db Unrestricted asked) (query_stop fault)
+query_stops db asked known before now (query.NoValue at) e may = queries_lack db asked (may.1 db e).somewhere
+query_stops db asked known before now (query.Base fault) e may = tt
+query_stops db asked known before now query.OutOfMemory e may = tt
 
-pub query_answered : (db : Db) (asked : List Asked) (told : Option Db) (before now : ℕ) (fault : QueryFault) (stopped : Stopped) (reply : Reply)
-    → told ≡ Some db → asking.MayFail (λ db at. asking.OneLacksIn db asked at) told before now fault → stopped ≡ query_stop fault
-    → (number : ℕ) × (stopped ≡ No number) × (reply ≡ Refused (refusal number)) → reply ≡ answer_reply db Free asked
-query_answered db asked told before now fault stopped reply e may is w =
+pub query_answered : (db : Db) (asked : List Asked) (known : Option Db) (before now : ℕ) (fault : QueryFault) (stopped : Stopped) (reply : Reply)
+    → known ≡ Some db → asking.MayFail (λ db at. asking.OneLacksIn db asked at) known before now fault → stopped ≡ query_stop fault
+    → (number : ℕ) × (stopped ≡ No number) × (reply ≡ Refused (refusal number)) → reply ≡ answer_reply db Unrestricted asked
+query_answered db asked known before now fault stopped reply e may is w =
     w.2
-    ∙ subst (RefusedBy (λ number. Refused (refusal number) ≡ answer_reply db Free asked)) (sym is ∙ w.1)
-    (query_stops db asked told before now fault e may)
+    ∙ subst (RefusedBy (λ number. Refused (refusal number) ≡ answer_reply db Unrestricted asked)) (sym is ∙ w.1)
+    (query_stops db asked known before now fault e may)

@@ -7,8 +7,8 @@ use Rattle.calculus.specs.declared.statement.Statement.{Statement}
 use Rattle.calculus.specs.Database.{Db}
 use Rattle.calculus.specs.Pairs.{pairs}
 use Rattle.calculus.specs.Replacement.{update_lacks, values_fit}
-use Rattle.calculus.specs.Who.{Free, asker_of}
-use Rattle.quel_meaning.specs.Meaning.{judged}
+use Rattle.calculus.specs.Who.{Unrestricted, asker_of}
+use Rattle.quel_meaning.specs.Meaning.{checked_tree}
 use Rattle.quel_meaning.specs.Ranges.{Ranges}
 use Rattle.stage_parse.specs.Checks.{IsChecked}
 use Rattle.plain_statements.specs.Doable.{IsDoable}
@@ -22,12 +22,12 @@ Plans made refused (Err (No number)) = refused number
 Plans made refused (Err (Base fault)) = Unit {0}
 Plans made refused (Err OutOfMemory) = Unit {0}
 
--- what is made for the user's statement is its checked tree, which can be carried out, or the number that it is judged to be refused by
+-- what is made for the user's statement is its checked tree, which can be carried out, or the number that refuses it
 abbrev pub IsMade : Db → List ℕ → Ranges → Statement → Result Checked Stopped → Type 0
-IsMade db user ranges s made = Plans (λ tree. IsChecked db user ranges s tree × IsDoable db user tree) (λ number. judged db (asker_of user) ranges s ≡ Err number) made
+IsMade db user ranges s made = Plans (λ tree. IsChecked db user ranges s tree × IsDoable db user tree) (λ number. checked_tree db (asker_of user) ranges s ≡ Err number) made
 
--- these are the update's pairs for nobody in particular; no target lacks a value, and all values fit
+-- these are the update's pairs unrestricted; no target lacks a value, and all values fit
 pub record ArePairs (db : Db) (u : Update) (ps : List Pair) : Type 0 where
-  pub are : ps ≡ pairs db Free u
-  pub values : IsFalse (update_lacks db Free u)
-  pub fit : IsTrue (values_fit db Free u)
+  pub are : ps ≡ pairs db Unrestricted u
+  pub values : IsFalse (update_lacks db Unrestricted u)
+  pub fit : IsTrue (values_fit db Unrestricted u)

@@ -13,8 +13,8 @@ empty_db dba = record { dba = dba; relations = []; indexes = []; views = []; rul
 abbrev pub effect_of : Db → Files → Reply → Effect
 effect_of db files reply = record { db = db; shelf = files; reply = reply }
 
--- the effect is this database, the files that the shelf tells, and this reply
-pub record Leaves (effect : Effect) (db : Db) (told : Option Files) (reply : Reply) : Type 0 where
+-- the effect is this database, the files that are known of the shelf, and this reply
+pub record Leaves (effect : Effect) (db : Db) (known : Option Files) (reply : Reply) : Type 0 where
   pub files : Files
-  pub told_so : told ≡ Some files
+  pub known_so : known ≡ Some files
   pub is : effect ≡ effect_of db files reply

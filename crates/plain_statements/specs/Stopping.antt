@@ -4,8 +4,8 @@ use Rattle.memory.specs.declared.out_of_memory.OutOfMemory.{OutOfMemory as Short
 use Rattle.calculus.specs.declared.reply.Reply.{Reply}
 use Rattle.calculus.specs.declared.reply.Reply.TheVariants.{Refused}
 use Rattle.calculus.specs.Database.{Db}
-use Rattle.am_traits.specs.Causes.{MayCome}
-use Rattle.am_traits.specs.declared.fault.BaseFault.TheVariants as faults
+use Rattle.base_trait.specs.Causes.{MayCome}
+use Rattle.base_trait.specs.declared.fault.BaseFault.TheVariants as faults
 use Rattle.fault_io.specs.declared.shelf.ShelfFault.{ShelfFault}
 use Rattle.fault_io.specs.declared.shelf.ShelfFault.TheVariants as shelf
 use Rattle.quel_meaning.specs.Copying.{refusal, bad_row}
@@ -26,19 +26,19 @@ use Rattle.plain_statements.specs.declared.stopped.Stopped.TheVariants.{No, Base
 
 -- this may stop a statement: a fault of the database where it may come; anything else where its count stayed
 abbrev pub StopsBy : Option Db → ℕ → ℕ → Stopped → Type 0
-StopsBy told before now (No number) = now ≡ before
-StopsBy told before now (Base fault) = MayCome told before now fault
-StopsBy told before now OutOfMemory = now ≡ before
+StopsBy known before now (No number) = now ≡ before
+StopsBy known before now (Base fault) = MayCome known before now fault
+StopsBy known before now OutOfMemory = now ≡ before
 
 -- an answer where the count stayed, or what may stop a statement
 abbrev pub IsCaused : {T : Type 0} → Option Db → ℕ → ℕ → Result T Stopped → Type 0
-IsCaused told before now (Ok x) = now ≡ before
-IsCaused told before now (Err stop) = StopsBy told before now stop
+IsCaused known before now (Ok x) = now ≡ before
+IsCaused known before now (Err stop) = StopsBy known before now stop
 
 -- the count of faults never falls, an answer comes only where it stayed, and a fault of the database only where it may
-pub record HasStopCause {T : Type 0} (told : Option Db) (before now : ℕ) (result : Result T Stopped) : Type 0 where
+pub record HasStopCause {T : Type 0} (known : Option Db) (before now : ℕ) (result : Result T Stopped) : Type 0 where
   pub later : before ≤ now
-  pub caused : IsCaused told before now result
+  pub caused : IsCaused known before now result
 
 -- a fault of the database is want of memory, as it is of one in memory
 abbrev pub IsShort : Stopped → Type 0

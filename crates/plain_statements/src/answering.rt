@@ -2,13 +2,13 @@
 
 ghost use Rattle.std.specs.Prelude.{◌≡◌, Some, IfOk};
 ghost use Rattle.calculus.specs.Database.{Db};
-ghost use Rattle.calculus.specs.Who.{Free};
+ghost use Rattle.calculus.specs.Who.{Unrestricted};
 ghost use Rattle.quel_meaning.specs.Meaning.{answer_reply};
 ghost use Rattle.plain_statements.specs.Doable.{AreDoable};
 
 use crate::Stopped;
 use crate::refusing::answer_to;
-use am_traits::Base;
+use base_trait::Base;
 use calculus::{Asked, OutOfMemory, Reply};
 use plain_base::DbPlain;
 use stage_proc::tables_of;
@@ -21,7 +21,7 @@ pub(crate) fn answered(
     asked: &[Asked],
 ) -> Result<Reply, OutOfMemory>
     requires { (db : Db) → ⟦<DbPlain as Base>⟧.database base.old ≡ Some db → AreDoable db asked.now }
-    ensures told { (db : Db) → ⟦<DbPlain as Base>⟧.database base.old ≡ Some db → IfOk result (λ reply. reply ≡ answer_reply db Free asked.now) }
+    ensures known { (db : Db) → ⟦<DbPlain as Base>⟧.database base.old ≡ Some db → IfOk result (λ reply. reply ≡ answer_reply db Unrestricted asked.now) }
     ensures kept { ⟦<DbPlain as Base>⟧.database base.new ≡ ⟦<DbPlain as Base>⟧.database base.old }
 {
     match tables_of(alloc, base, asked) {

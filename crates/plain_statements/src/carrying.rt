@@ -2,7 +2,7 @@
 
 ghost use Rattle.std.specs.Prelude.{◌≡◌, true, false, Some, None, Ok, IfOk, OnErr};
 ghost use Rattle.calculus.specs.Replacement.{updated};
-ghost use Rattle.calculus.specs.Who.{Free};
+ghost use Rattle.calculus.specs.Who.{Unrestricted};
 ghost use Rattle.copy_util.specs.Copies.{IsCopy};
 ghost use Rattle.fault_io.specs.Files.{Files};
 ghost use Rattle.fault_io.specs.Shelves.{HasShelfCause};
@@ -15,8 +15,8 @@ ghost use Rattle.plain_statements.specs.Stopping.{without_shelf};
 
 use crate::Stopped;
 use crate::answering::answered;
+use crate::applying::laid;
 use crate::copying::{copied_from, copied_into};
-use crate::laying::laid;
 use crate::planning::update_planned;
 use crate::refusing::{refused, short};
 use crate::working::work_planned;
@@ -28,7 +28,7 @@ use std::alloc::Global;
 /// Carries an update out.
 fn update_done(alloc: Global, base: &mut DbPlain, u: &Update) -> Result<Reply, OutOfMemory>
     requires { IsDoableUpdate (database_of base.old) u.now }
-    ensures done { (files : Files) → IfOk result (λ reply. numbered_effect (database_of base.old) files (updated (database_of base.old) Free u.now) ≡ effect_of (database_of base.new) files reply) }
+    ensures done { (files : Files) → IfOk result (λ reply. numbered_effect (database_of base.old) files (updated (database_of base.old) Unrestricted u.now) ≡ effect_of (database_of base.new) files reply) }
     ensures same { OnErr result (database_of base.new ≡ database_of base.old) }
 {
     match update_planned(alloc, base, u) {
@@ -102,7 +102,7 @@ fn work_done<H: Shelf>(
     }
 }
 
-/// Carries a tree out for nobody in particular; the utilities work for the user.
+/// Carries a tree out unrestricted; the utilities work for the user.
 pub(crate) fn tree_done<H: Shelf>(
     alloc: Global,
     base: &mut DbPlain,
@@ -112,7 +112,7 @@ pub(crate) fn tree_done<H: Shelf>(
 ) -> Result<Reply, ShelfFault>
     requires { IsDoable (database_of base.old) user.now tree.now }
     ensures done { (files : Files) → H.files shelf.old ≡ Some files
-        → IfOk result (λ reply. Leaves (tree_meaning (database_of base.old) files Free user.now tree.now) (database_of base.new) (H.files shelf.new) reply) }
+        → IfOk result (λ reply. Leaves (tree_meaning (database_of base.old) files Unrestricted user.now tree.now) (database_of base.new) (H.files shelf.new) reply) }
     ensures same { OnErr result (database_of base.new ≡ database_of base.old) }
     ensures cause { HasShelfCause (H.faults shelf.old) (H.faults shelf.new) result }
 {

@@ -10,9 +10,9 @@ ghost use Rattle.plain_statements.specs.Doable.{IsDoableWork};
 ghost use Rattle.plain_statements.specs.Standing.{Leaves};
 ghost use Rattle.plain_statements.specs.Stopping.{copy_answer, IsShortCopy};
 
-use crate::laying::laid;
+use crate::applying::laid;
 use crate::refusing::refused;
-use am_traits::BaseFault;
+use base_trait::BaseFault;
 use calculus::{Name, OutOfMemory, Refusal, Reply, Utility};
 use copy_util::{CopyFault, copy_from, copy_into};
 use fault_io::{Shelf, ShelfFault};

@@ -2,10 +2,10 @@
 #![tactic(auto)]
 
 mod answering;
+mod applying;
 mod carrying;
-mod changing;
+mod change_of_pairs;
 mod copying;
-mod laying;
 mod pairing;
 mod planning;
 mod refusing;

@@ -3,12 +3,12 @@
 ghost use Rattle.std.specs.Prelude.{◌≡◌, ℕ, Ok, IfOk};
 ghost use Rattle.calculus.specs.declared.reply.Reply.TheVariants.{Refused};
 ghost use Rattle.quel_meaning.specs.Copying.{refusal};
-ghost use Rattle.am_traits.specs.declared.fault.BaseFault.TheVariants.{OutOfMemory as NoMemory};
+ghost use Rattle.base_trait.specs.declared.fault.BaseFault.TheVariants.{OutOfMemory as NoMemory};
 ghost use Rattle.plain_statements.specs.Stopping.{IsShort};
 ghost use Rattle.plain_statements.specs.declared.stopped.Stopped.TheVariants.{No};
 
 use crate::Stopped;
-use am_traits::BaseFault;
+use base_trait::BaseFault;
 use calculus::{OutOfMemory, Refusal, Reply};
 
 /// A refusal with this number, of no line and no row.

@@ -8,7 +8,7 @@ ghost use Rattle.calculus.specs.Finding.{found};
 ghost use Rattle.fault_io.specs.Files.{Files};
 ghost use Rattle.fault_io.specs.Shelves.{HasShelfCause};
 ghost use Rattle.quel_meaning.specs.IsWritten.{is_written};
-ghost use Rattle.quel_meaning.specs.Meaning.{meaning, is_range, range_outcome, judged, judged_outcome};
+ghost use Rattle.quel_meaning.specs.Meaning.{meaning, is_range, range_outcome, checked_tree, checked_outcome};
 ghost use Rattle.quel_meaning.specs.Ranges.{Ranges};
 ghost use Rattle.session_run.specs.Standing.{Comes, state_on};
 ghost use Rattle.plain_base.specs.Shown.{database_of};
@@ -20,7 +20,7 @@ use crate::Stopped;
 use crate::carrying::{tree_done, without_shelf};
 use crate::refusing::{answer_to, refused, short};
 use crate::trees::tree_of;
-use am_traits::Base;
+use base_trait::Base;
 use calculus::{Checked, Name, OutOfMemory, Reply, Statement, TryCopy};
 use fault_io::{Shelf, ShelfFault};
 use plain_base::DbPlain;
@@ -64,7 +64,7 @@ fn made_done<H: Shelf>(
     requires doable { IfOk made (λ tree. IsDoable (database_of base.old) user.now tree) }
     requires short { IfErr made IsShort }
     ensures done { (ranges : Ranges) (s : Stated) (files : Files) → H.files shelf.old ≡ Some files → IsMade (database_of base.old) user.now ranges s made
-        → IfOk result (λ reply. Comes (judged_outcome (state_on (database_of base.old) ranges files) (asker_of user.now) (judged (database_of base.old) (asker_of user.now) ranges s)) (database_of base.new) ranges (H.files shelf.new) reply) }
+        → IfOk result (λ reply. Comes (checked_outcome (state_on (database_of base.old) ranges files) (asker_of user.now) (checked_tree (database_of base.old) (asker_of user.now) ranges s)) (database_of base.new) ranges (H.files shelf.new) reply) }
     ensures same { OnErr result (database_of base.new ≡ database_of base.old) }
     ensures cause { HasShelfCause (H.faults shelf.old) (H.faults shelf.new) result }
 {
@@ -89,7 +89,7 @@ fn carried_out<H: Shelf>(
 ) -> Result<Reply, ShelfFault>
     requires { is_written s.now ≡ true }
     ensures done { (files : Files) → H.files shelf.old ≡ Some files
-        → IfOk result (λ reply. Comes (judged_outcome (state_on (database_of base.old) ranges.now files) (asker_of user.now) (judged (database_of base.old) (asker_of user.now) ranges.now s.now)) (database_of base.new) ranges.now (H.files shelf.new) reply) }
+        → IfOk result (λ reply. Comes (checked_outcome (state_on (database_of base.old) ranges.now files) (asker_of user.now) (checked_tree (database_of base.old) (asker_of user.now) ranges.now s.now)) (database_of base.new) ranges.now (H.files shelf.new) reply) }
     ensures same { OnErr result (database_of base.new ≡ database_of base.old) }
     ensures cause { HasShelfCause (H.faults shelf.old) (H.faults shelf.new) result }
 {

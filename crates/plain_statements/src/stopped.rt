@@ -3,7 +3,7 @@
 ghost use Rattle.std.specs.Prelude.{◌≡◌};
 ghost use Rattle.plain_statements.specs.Stopping.{change_stop, check_stop, pair_stop, query_stop, utility_stop};
 
-use am_traits::BaseFault;
+use base_trait::BaseFault;
 use decompose::QueryFault;
 use quel_resolve::CheckFault;
 use stage_proc::PairFault;

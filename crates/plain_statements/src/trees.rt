@@ -7,14 +7,14 @@ ghost use Rattle.plain_statements.specs.Plans.{IsMade};
 ghost use Rattle.plain_statements.specs.Stopping.{HasStopCause};
 
 use crate::Stopped;
-use am_traits::Base;
+use base_trait::Base;
 use calculus::{Checked, Name, Statement};
 use quel_check::RangeTable;
 use stage_parse::checked;
 use std::alloc::Global;
 
 /// The checked tree of a statement of the user's which has what each one has that is read of a text: it
-/// can be carried out for nobody in particular, and does then what the statement does for
+/// can be carried out unrestricted, and does then what the statement does for
 /// the user. Or the number of what refuses the statement.
 pub(crate) fn tree_of<B: Base>(
     alloc: Global,
@@ -24,7 +24,7 @@ pub(crate) fn tree_of<B: Base>(
     s: &Statement,
 ) -> Result<Checked, Stopped>
     requires { is_written s.now ≡ true }
-    ensures told { (db : Db) → B.database base.old ≡ Some db → IsMade db user.now ranges.now s.now result }
+    ensures known { (db : Db) → B.database base.old ≡ Some db → IsMade db user.now ranges.now s.now result }
     ensures kept { B.database base.new ≡ B.database base.old }
     ensures cause { HasStopCause (B.database base.old) (B.faults base.old) (B.faults base.new) result }
 {

@@ -10,7 +10,7 @@ ghost use Rattle.plain_statements.specs.Plans.{Plans};
 ghost use Rattle.plain_statements.specs.Stopping.{HasStopCause};
 
 use crate::Stopped;
-use am_traits::Base;
+use base_trait::Base;
 use calculus::{DbChange, Name, Utility};
 use std::alloc::Global;
 use utilities::plan;
@@ -24,7 +24,7 @@ pub(crate) fn work_planned<B: Base>(
 ) -> Result<DbChange, Stopped>
     requires doable { (db : Db) → B.database base.old ≡ Some db → IsDoableWork db user.now work.now }
     requires planned { is_copy work.now ≡ false }
-    ensures told { (db : Db) → B.database base.old ≡ Some db
+    ensures known { (db : Db) → B.database base.old ≡ Some db
         → Plans (λ change. (planned db user.now work.now ≡ Ok change) × IsLawful db change) (λ number. planned db user.now work.now ≡ Err number) result }
     ensures kept { B.database base.new ≡ B.database base.old }
     ensures cause { HasStopCause (B.database base.old) (B.faults base.old) (B.faults base.new) result }

@@ -15,7 +15,7 @@ use Rattle.calculus.specs.QueryParts.{vars_of, targets_of, qual_of, query_aggreg
 use Rattle.calculus.specs.Kinds.{kind_of, kinds_fit}
 use Rattle.calculus.specs.Lists.{is_any}
 use Rattle.calculus.specs.Sizes.{Measure, Known, range_level, level_above, level_within, level_of, range_measure, query_measure, measure_within, measure_of, query_size, expanded_variables, source_variables, plain_measure}
-use Rattle.calculus.specs.IsDatabase.{query_stands, vars_are_there, row_qual_stands, permit_stands, index_stands, has_kind, keys_stand, user_is_named}
+use Rattle.calculus.specs.IsDatabase.{valid_query, vars_are_there, valid_row_qual, valid_permit, valid_index, has_kind, keys_stand, user_is_named}
 
 -- ---- what is the same
 
@@ -128,7 +128,7 @@ vars_stay db later alike views = ap (λ there. list_all (λ v. list_all there (v
 abbrev stands_by : (RelKey → List Kind) → Query → Bool
 stands_by kinds q = list_all (λ t. has_kind (kind_of t.term (map kinds (vars_of q))) t.kind) (targets_of q) && kinds_fit (qual_of q) (map kinds (vars_of q))
 
-pub queries_stay : (db later : Db) → Alike db later → (views : List View) → list_all (λ v. query_stands db v.query) views ≡ list_all (λ v. query_stands later v.query) views
+pub queries_stay : (db later : Db) → Alike db later → (views : List View) → list_all (λ v. valid_query db v.query) views ≡ list_all (λ v. valid_query later v.query) views
 queries_stay db later alike views = ap (λ kinds. list_all (λ v. stands_by kinds v.query) views) (kinds_same db later alike)
 
 -- the variables of a query once expanded, where this is known of what variables range over
@@ -150,17 +150,17 @@ unfolding query_size
 sizes_stay db later alike views = ap (λ known. list_all (λ v. nat_le (size_by known v.query) greatest_size) views) (measure_same db later alike)
 
 pub rules_stay : (db later : Db) → Alike db later → (rules : List (RelKey × Rule))
-    → list_all (λ p. is_relation db p.0 && row_qual_stands db p.0 p.1.qual) rules ≡ list_all (λ p. is_relation later p.0 && row_qual_stands later p.0 p.1.qual) rules
+    → list_all (λ p. is_relation db p.0 && valid_row_qual db p.0 p.1.qual) rules ≡ list_all (λ p. is_relation later p.0 && valid_row_qual later p.0 p.1.qual) rules
 rules_stay db later alike rules =
     λ i. list_all (λ p. relations_same db later alike i p.0 && kinds_fit p.1.qual (kinds_same db later alike i p.0 ∷ [])) rules
 
 pub permits_stay : (db later : Db) → Alike db later → db.dba ≡ later.dba → (permits : List (RelKey × Permit))
-    → list_all (λ p. permit_stands db p.0 p.1) permits ≡ list_all (λ p. permit_stands later p.0 p.1) permits
+    → list_all (λ p. valid_permit db p.0 p.1) permits ≡ list_all (λ p. valid_permit later p.0 p.1) permits
 permits_stay db later alike dba permits =
     λ i. list_all (λ p. relations_same db later alike i p.0
     && (bytes_eq p.0.owner (dba i) && (user_is_named p.1.user
     && (list_all (λ a. nat_lt a (length (attrs_same db later alike i p.0))) p.1.attrs && kinds_fit p.1.qual (kinds_same db later alike i p.0 ∷ []))))) permits
 
-pub indexes_stay : (db later : Db) → Alike db later → (indexes : List Index) → list_all (index_stands db) indexes ≡ list_all (index_stands later) indexes
+pub indexes_stay : (db later : Db) → Alike db later → (indexes : List Index) → list_all (valid_index db) indexes ≡ list_all (valid_index later) indexes
 indexes_stay db later alike indexes = λ i. list_all (λ x. is_index x.info.spec
     && (relations_same db later alike i x.base && (not (is_any x.info.attrs) && (is_any x.info.keys && keys_stand (attrs_same db later alike i x.base) x.info.keys)))) indexes

@@ -14,7 +14,7 @@ use Rattle.calculus.specs.Lists.{differ_by}
 use Rattle.calculus.specs.Rows.{Ascends}
 use Rattle.calculus.specs.Limits.{most_entries, most_rows, most_rules, most_permits}
 use Rattle.calculus.specs.Database.{Db, Relation, entries, rules_on, permits_on}
-use Rattle.calculus.specs.IsDatabase.{IsDatabase, key_is_named, structure_stands, attrs_stand, are_stored, relation_rows_fit}
+use Rattle.calculus.specs.IsDatabase.{IsDatabase, key_is_named, valid_structure, attrs_stand, are_stored, relation_rows_fit}
 use Rattle.calculus.specs.Change.{change_at}
 use Rattle.plan_laws.proofs.Kept.{both, each}
 use Rattle.plan_laws.proofs.Orders.{key_total, same_key_is}
@@ -79,7 +79,7 @@ owned rel (r ∷ rs) h = (
 
 -- the changed relation still has a structure and a set of rows that fit and are not too many
 pub record ChangeStands (db : Db) (rel : RelKey) (f : Relation → Relation) : Type 0 where
-  pub structure : AllByRecursion (λ r. same_key r.info.key rel ≡ true → IsTrue (structure_stands r.info) → IsTrue (structure_stands (f r).info)) db.relations
+  pub structure : AllByRecursion (λ r. same_key r.info.key rel ≡ true → IsTrue (valid_structure r.info) → IsTrue (valid_structure (f r).info)) db.relations
   pub ascend : AllByRecursion (λ r. same_key r.info.key rel ≡ true → Ascends r.rows → Ascends (f r).rows) db.relations
   pub fit : AllByRecursion (λ r. same_key r.info.key rel ≡ true → IsTrue (relation_rows_fit r) → IsTrue (relation_rows_fit (f r))) db.relations
   pub few : AllByRecursion (λ r. same_key r.info.key rel ≡ true → IsTrue (nat_le (length r.rows) most_rows) → IsTrue (nat_le (length (f r).rows) most_rows)) db.relations
@@ -108,7 +108,7 @@ with_changed db rel f keeps stands is = record {
   rules_ascend = is.rules_ascend;
   permits_ascend = is.permits_ascend;
   keys_differ = ap (differ_by same_key) same_keys ∙ is.keys_differ;
-  structures_stand = all_changed rel f (λ r. structure_stands r.info) db.relations stands.structure is.structures_stand;
+  structures_stand = all_changed rel f (λ r. valid_structure r.info) db.relations stands.structure is.structures_stand;
   relation_attrs_stand = all_changed rel f (λ r. attrs_stand r.info.attrs) db.relations (of_attrs attrs_stand) is.relation_attrs_stand;
   relations_are_stored = all_changed rel f (λ r. are_stored r.info.attrs) db.relations (of_attrs are_stored) is.relations_are_stored;
   rows_ascend = each_changed rel f (λ r. Ascends r.rows) db.relations stands.ascend is.rows_ascend;

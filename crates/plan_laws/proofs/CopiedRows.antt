@@ -15,11 +15,11 @@ use Rattle.calculus.specs.Rows.{Row, Ascends, has}
 use Rattle.calculus.specs.Value.{row_cmp}
 use Rattle.calculus.specs.Database.{Db, Relation, relation_at, is_relation}
 use Rattle.calculus.specs.Stored.{rows_at, kinds_at}
-use Rattle.calculus.specs.Replacement.{first_cause, with_rows, without_rows}
+use Rattle.calculus.specs.Replacement.{first_refusal, with_rows, without_rows}
 use Rattle.calculus.specs.IsDatabase.{IsDatabase, row_fits, are_stored, relation_rows_fit}
 use Rattle.calculus.specs.Change.{laid, names_what_is_there, adds_what_is_new, lists_once, rows_differ, IsLawful}
 use Rattle.fault_io.specs.Files.{Files, fetched}
-use Rattle.quel_meaning.specs.Planned.{owner_causes}
+use Rattle.quel_meaning.specs.Planned.{owner_refusals}
 use Rattle.quel_meaning.specs.Copying.{file_of_constant, refusal, bad_row, keeps_rules, rows_in_file, rows_appended, file_appended, copied_from, most_file_bytes}
 use Rattle.plan_laws.specs.Fitting.{is_ranged}
 use Rattle.plan_laws.proofs.Kept.{both, each, all_filter}
@@ -129,12 +129,12 @@ file_lawful db rel relation columns (Some bytes) change is found e = short (nat_
 pub copy_lawful : (db : Db) (shelf : Files) (user : List ℕ) (rel : RelKey) (columns : List CopyCol) (constant : List ℕ) (change : DbChange) → IsDatabase db → IsTrue (is_ranged db rel)
     → copied_from db shelf user rel columns constant ≡ Ok change → IsLawful db change
 unfolding copied_from
-copy_lawful db shelf user rel columns constant change is there e = go (first_cause (owner_causes db user rel)) refl e
+copy_lawful db shelf user rel columns constant change is there e = go (first_refusal (owner_refusals db user rel)) refl e
   where
-    go : (o : Option ℕ) → first_cause (owner_causes db user rel) ≡ o
+    go : (o : Option ℕ) → first_refusal (owner_refusals db user rel) ≡ o
         → (elim o as (λ o. Result DbChange Refusal) [ Some number ↦ Err (refusal number) | None ↦ file_appended db rel columns (fetched shelf (file_of_constant constant)) ]) ≡ Ok change → IsLawful db change
     go (Some number) f e = cc e
     go None f e =
-        let absent = all_absent (owner_causes db user rel) f in
+        let absent = all_absent (owner_refusals db user rel) f in
         there_is (relation_at db rel) (base_relation db rel there absent.0 absent.1.0) λ relation found.
         file_lawful db rel relation columns (fetched shelf (file_of_constant constant)) change is found e

@@ -20,10 +20,10 @@ use Rattle.calculus.specs.Stored.{Viewed, range_at}
 use Rattle.calculus.specs.Structures.{is_index}
 use Rattle.calculus.specs.QueryParts.{vars_of}
 use Rattle.calculus.specs.Name.{is_name}
-use Rattle.calculus.specs.IsDatabase.{IsDatabase, row_fits, key_is_named, structure_stands, attrs_stand, are_stored, relation_rows_fit, vars_are_there, query_stands, index_stands, row_qual_stands, permit_stands}
+use Rattle.calculus.specs.IsDatabase.{IsDatabase, row_fits, key_is_named, valid_structure, attrs_stand, are_stored, relation_rows_fit, vars_are_there, valid_query, valid_index, valid_row_qual, valid_permit}
 use Rattle.calculus.specs.Change.{laid, names_what_is_there, adds_what_is_new, lists_once, IsLawful}
 use Rattle.calculus.proofs.Sets.{Ascends-nil, Ascends-set_of, has-set_of, same_set}
-use Rattle.quel_meaning.specs.Planned.{planned, plan_causes, plan_change, heap_info}
+use Rattle.quel_meaning.specs.Planned.{planned, plan_refusals, plan_change, heap_info}
 use Rattle.quel_meaning.proofs.InOrder.{in_order-insert}
 use Rattle.plan_laws.specs.Fitting.{IsFitRelation}
 use Rattle.plan_laws.proofs.Kept.{both, all_insert}
@@ -152,7 +152,7 @@ ranges_beside db new key other =
     later : Db
     later = record db { relations = insert_by by_rel new db.relations }
 
-pub index_based : (db : Db) (x : Index) → IsTrue (index_stands db x) → is_relation db x.base ≡ true
+pub index_based : (db : Db) (x : Index) → IsTrue (valid_index db x) → is_relation db x.base ≡ true
 index_based db x t = (both (is_relation db x.base) _ (both (is_index x.info.spec) _ t).1).0
 
 -- the set of rows that ascend is these rows
@@ -178,7 +178,7 @@ made_lawful db rel attrs rows is fit ascend fits few = record {
     rules_ascend = is.rules_ascend;
     permits_ascend = is.permits_ascend;
     keys_differ = differ_beside new db.relations others (not_there rel (entries db) fit.unused) is.keys_differ;
-    structures_stand = put (λ r. structure_stands r.info) refl is.structures_stand;
+    structures_stand = put (λ r. valid_structure r.info) refl is.structures_stand;
     relation_attrs_stand = put (λ r. attrs_stand r.info.attrs) fit.attributes is.relation_attrs_stand;
     relations_are_stored = put (λ r. are_stored r.info.attrs) fit.domains is.relations_are_stored;
     rows_ascend = each_beside (λ r. Ascends r.rows) new db.relations (Ascends-set_of rows) is.rows_ascend;
@@ -239,8 +239,8 @@ made_lawful db rel attrs rows is fit ascend fits few = record {
     ranges_alike : (key : RelKey) → same_key rel key ≡ false → AlikeRange (range_at db key) (range_at later key)
     ranges_alike key other = ranges_beside db new key other
 
-    stood : AllByRecursion (λ v. IsTrue (query_stands db v.query)) db.views
-    stood = each_true (λ v. query_stands db v.query) db.views is.view_queries_stand
+    stood : AllByRecursion (λ v. IsTrue (valid_query db v.query)) db.views
+    stood = each_true (λ v. valid_query db v.query) db.views is.view_queries_stand
 
     differs : RelInfo → Bool
     differs i = not (same_key rel i.key)
@@ -265,17 +265,17 @@ made_lawful db rel attrs rows is fit ascend fits few = record {
         (λ v k. record { key = is_no (same_key rel v.info.key) k.0; vars = vars_other v k.1.0; plain = query_plain db v.query k.1.1 })
 
     ruled : AllByRecursion (λ p. Other p.0) db.rules
-    ruled = each_from _ _ db.rules (each_true (λ p. is_relation db p.0 && row_qual_stands db p.0 p.1.qual) db.rules is.rules_stand)
-        (λ p t. ranged_is_other db rel p.0 nothing (relation_is_ranged db p.0 (both (is_relation db p.0) (row_qual_stands db p.0 p.1.qual) t).0))
+    ruled = each_from _ _ db.rules (each_true (λ p. is_relation db p.0 && valid_row_qual db p.0 p.1.qual) db.rules is.rules_stand)
+        (λ p t. ranged_is_other db rel p.0 nothing (relation_is_ranged db p.0 (both (is_relation db p.0) (valid_row_qual db p.0 p.1.qual) t).0))
 
     permitted : AllByRecursion (λ p. Other p.0) db.permits
-    permitted = each_from _ _ db.permits (each_true (λ p. permit_stands db p.0 p.1) db.permits is.permits_stand)
+    permitted = each_from _ _ db.permits (each_true (λ p. valid_permit db p.0 p.1) db.permits is.permits_stand)
         (λ p t. ranged_is_other db rel p.0 nothing (relation_is_ranged db p.0 (both (is_relation db p.0) _ t).0))
 
     based : AllByRecursion (λ x. Other x.base) db.indexes
-    based = each_from _ _ db.indexes (each_true (index_stands db) db.indexes is.indexes_stand) (λ x t. ranged_is_other db rel x.base nothing (relation_is_ranged db x.base (index_based db x t)))
+    based = each_from _ _ db.indexes (each_true (valid_index db) db.indexes is.indexes_stand) (λ x t. ranged_is_other db rel x.base nothing (relation_is_ranged db x.base (index_based db x t)))
 
 pub created_planned : (db : Db) (user : List ℕ) (rel : RelKey) (attrs : List Attr) (made : DbChange) → IsDatabase db → IsFitRelation db rel attrs
     → planned db user (utility.Create rel attrs) ≡ Ok made → IsLawful db made
-unfolding plan_causes plan_change
+unfolding plan_refusals plan_change
 created_planned db user rel attrs made is fit e = subst (IsLawful db) (not_refused db user (utility.Create rel attrs) made e).1 (made_lawful db rel attrs [] is fit Ascends-nil refl refl)

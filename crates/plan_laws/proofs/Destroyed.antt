@@ -17,9 +17,9 @@ use Rattle.calculus.specs.Catalogue.{is_catalogue, relation_key, attribute_key, 
 use Rattle.calculus.specs.Database.{Db, Relation, View, Index, relation_at, view_at, entries, is_there, rules_on, permits_on}
 use Rattle.calculus.specs.Stored.{range_at}
 use Rattle.calculus.specs.QueryParts.{vars_of, targets_of}
-use Rattle.calculus.specs.IsDatabase.{IsDatabase, key_is_named, structure_stands, attrs_stand, are_stored, relation_rows_fit, index_stands, view_info_stands, attrs_are_targets, vars_are_there, query_stands}
+use Rattle.calculus.specs.IsDatabase.{IsDatabase, key_is_named, valid_structure, attrs_stand, are_stored, relation_rows_fit, valid_index, valid_view_info, attrs_are_targets, vars_are_there, valid_query}
 use Rattle.calculus.specs.Change.{laid, without_keys, names_what_is_there, adds_what_is_new, lists_once, IsLawful}
-use Rattle.quel_meaning.specs.Planned.{planned, plan_causes, plan_change, is_in_use}
+use Rattle.quel_meaning.specs.Planned.{planned, plan_refusals, plan_change, is_in_use}
 use Rattle.plan_laws.proofs.Kept.{both, each, all_filter, filter_fewer}
 use Rattle.plan_laws.proofs.Orders.{same_key_is}
 use Rattle.plan_laws.proofs.Planned.{neither, all_absent, not_refused}
@@ -161,18 +161,18 @@ destroyed_lawful db rels is there differ unused = record {
     rules_ascend = IsStrictlySortedBy-filter (numbered_cmp (λ r. r.number)) (λ p. not (has_key rels p.0)) db.rules is.rules_ascend;
     permits_ascend = IsStrictlySortedBy-filter (numbered_cmp (λ p. p.number)) (λ p. not (has_key rels p.0)) db.permits is.permits_ascend;
     keys_differ = part_differs same_key _ _ (part_map (λ i. i.key) (entries later) (entries db) entries_left) is.keys_differ;
-    structures_stand = all_filter (λ r. structure_stands r.info) keep_relation db.relations is.structures_stand;
+    structures_stand = all_filter (λ r. valid_structure r.info) keep_relation db.relations is.structures_stand;
     relation_attrs_stand = all_filter (λ r. attrs_stand r.info.attrs) keep_relation db.relations is.relation_attrs_stand;
     relations_are_stored = all_filter (λ r. are_stored r.info.attrs) keep_relation db.relations is.relations_are_stored;
     rows_ascend = part_each (λ r. Ascends r.rows) later.relations db.relations (part_filter keep_relation db.relations) is.rows_ascend;
     rows_fit = all_filter relation_rows_fit keep_relation db.relations is.rows_fit;
-    indexes_stand = sym (indexes_hold (Stays rels) db later stay later.indexes based) ∙ all_filter (index_stands db) keep_index db.indexes is.indexes_stand;
-    view_infos_stand = all_filter (λ v. view_info_stands v.info) keep_view db.views is.view_infos_stand;
+    indexes_stand = sym (indexes_hold (Stays rels) db later stay later.indexes based) ∙ all_filter (valid_index db) keep_index db.indexes is.indexes_stand;
+    view_infos_stand = all_filter (λ v. valid_view_info v.info) keep_view db.views is.view_infos_stand;
     view_attrs_stand = all_filter (λ v. attrs_stand v.info.attrs) keep_view db.views is.view_attrs_stand;
     view_attrs_are_targets = all_filter (λ v. attrs_are_targets v.info.attrs (targets_of v.query)) keep_view db.views is.view_attrs_are_targets;
     views_name_what_is_there = sym (vars_hold (Stays rels) db later stay later.views views) ∙ all_filter (λ v. vars_are_there db v.query) keep_view db.views is.views_name_what_is_there;
     views_have_levels = sym (levels_hold (Stays rels) db later stay later.views views) ∙ all_filter _ keep_view db.views is.views_have_levels;
-    view_queries_stand = sym (queries_hold (Stays rels) db later stay later.views views) ∙ all_filter (λ v. query_stands db v.query) keep_view db.views is.view_queries_stand;
+    view_queries_stand = sym (queries_hold (Stays rels) db later stay later.views views) ∙ all_filter (λ v. valid_query db v.query) keep_view db.views is.view_queries_stand;
     rules_stand = sym (rules_hold (Stays rels) db later stay later.rules ruled) ∙ all_filter _ (λ p. not (has_key rels p.0)) db.rules is.rules_stand;
     permits_stand = sym (permits_hold (Stays rels) db later stay refl later.permits permitted) ∙ all_filter _ (λ p. not (has_key rels p.0)) db.permits is.permits_stand;
     few_entries = fewer (length (entries later)) (length (entries db)) most_entries (part_shorter (entries later) (entries db) entries_left) is.few_entries;
@@ -230,7 +230,7 @@ destroyed_lawful db rels is there differ unused = record {
 
     views : AllByRecursion (ViewStays (Stays rels)) later.views
     views = each_from _ (ViewStays (Stays rels)) later.views
-        (each_kept _ keep_view db.views (both_each _ _ db.views (each_false _ db.views unused) (each_true (λ v. query_stands db v.query) db.views is.view_queries_stand)))
+        (each_kept _ keep_view db.views (both_each _ _ db.views (each_false _ db.views unused) (each_true (λ v. valid_query db v.query) db.views is.view_queries_stand)))
         (λ v k. let stays = is_no (has_key rels v.info.key) k.0 in record { key = stays; vars = vars_left db rels v k.1.0 stays; plain = query_plain db v.query k.1.1 })
 
     ruled : AllByRecursion (λ p. Stays rels p.0) later.rules
@@ -256,8 +256,8 @@ each_is_there db (key ∷ rels) t h =
 
 pub destroyed_planned : (db : Db) (user : List ℕ) (rels : List RelKey) (made : DbChange) → IsDatabase db
     → IsTrue (list_all (λ key. is_there db key || is_catalogue db key) rels) → IsTrue (differ_by same_key rels) → planned db user (utility.Destroy rels) ≡ Ok made → IsLawful db made
-unfolding plan_causes plan_change
+unfolding plan_refusals plan_change
 destroyed_planned db user rels made is there differ e =
     let plan = not_refused db user (utility.Destroy rels) made e in
-    let absent = all_absent (plan_causes db user (utility.Destroy rels)) plan.0 in
+    let absent = all_absent (plan_refusals db user (utility.Destroy rels)) plan.0 in
     subst (IsLawful db) plan.1 (destroyed_lawful db rels is (each_is_there db rels there absent.0) differ absent.1.1.0)

@@ -17,7 +17,7 @@ use Rattle.calculus.specs.declared.request.Checked.TheVariants as checked
 use Rattle.calculus.specs.declared.change.DbChange.{DbChange}
 use Rattle.calculus.specs.Change.{IsLawful}
 use Rattle.calculus.specs.Database.{Db, relation_at, is_relation, entries, is_there}
-use Rattle.calculus.specs.IsDatabase.{IsDatabase, key_is_named, attrs_stand, are_stored, keys_stand, vars_are_there, query_stands, row_qual_stands, permit_attrs_stand, user_is_named}
+use Rattle.calculus.specs.IsDatabase.{IsDatabase, key_is_named, attrs_stand, are_stored, keys_stand, vars_are_there, valid_query, valid_row_qual, permit_attrs_stand, user_is_named}
 use Rattle.calculus.specs.Catalogue.{is_catalogue, is_catalogue_name}
 use Rattle.calculus.specs.Keys.{key_of, same_key}
 use Rattle.calculus.specs.Limits.{most_entries, most_levels, most_variables, most_expanded_variables, greatest_size, most_listed_attributes}
@@ -35,7 +35,7 @@ use Rattle.quel_meaning.specs.Copying.{copied_from}
 use Rattle.quel_meaning.specs.Fit.{is_new, is_entry, columns_fit, view_fits, row_qual_fits, listed_attrs_fit, utility_fits, suits, fits}
 use Rattle.quel_meaning.specs.FitQueries.{Allowed, can_be_ranged_over, lists_few_vars}
 use Rattle.quel_meaning.specs.Passing.{is_full, is_taken, is_too_high, is_too_large}
-use Rattle.quel_meaning.specs.Planned.{planned, plan_causes, target_attr}
+use Rattle.quel_meaning.specs.Planned.{planned, plan_refusals, target_attr}
 use Rattle.fault_io.specs.Files.{Files}
 use Rattle.quel_meaning.specs.SpelledTree.{key_is_spelled, permit_is_spelled, utility_is_spelled, tree_is_spelled}
 use Rattle.plan_laws.specs.Fitting.{is_ranged, is_copy, IsFitPermit, IsFitRule, IsFitStructure, IsFitIndex, IsFitRelation, IsFitView}
@@ -126,13 +126,13 @@ fit_structure db rel to keys fits =
 -- the name of an index is one of the user's, who owns the relation where nothing refuses it
 pub fit_index : (db : Db) (user : List ℕ) (base : RelKey) (name keys : List ℕ) (made : DbChange) → IsDatabase db → IsTrue (is_name name)
     → IsTrue (can_be_ranged_over db base && (is_new db user name && (is_any keys && keys_stand (attrs_at db base) keys))) → planned db user (utility.Index base name keys) ≡ Ok made → IsFitIndex db base name keys
-unfolding plan_causes
+unfolding plan_refusals
 fit_index db user base name keys made is spelled fits e =
     let named = both (can_be_ranged_over db base) (is_new db user name && (is_any keys && keys_stand (attrs_at db base) keys)) fits in
     let new = both (is_new db user name) (is_any keys && keys_stand (attrs_at db base) keys) named.1 in
     let stands = both (is_any keys) (keys_stand (attrs_at db base) keys) new.1 in
     let there = named_is_ranged db base named.0 in
-    let absent = all_absent (plan_causes db user (utility.Index base name keys)) (not_refused db user (utility.Index base name keys) made e).0 in
+    let absent = all_absent (plan_refusals db user (utility.Index base name keys)) (not_refused db user (utility.Index base name keys) made e).0 in
     let owner = owner_named db base is (base_relation db base there absent.0 absent.1.0) in
     let own : IsTrue (is_new db base.owner name) = subst (λ user. IsTrue (is_new db user name)) (sym (owner_is user base absent.1.1.0)) new.0 in
     let free = new_is_free db (key_of base.owner name) (each _ _ owner spelled) own in
@@ -144,7 +144,7 @@ fit_view db rel q spelled fits =
     let constants = both (key_is_spelled rel) (query_is_spelled q) spelled in
     let new = both (is_new db rel.owner rel.name) (view_fits db q) fits in
     let vars = both (vars_are_there db q) _ new.1 in
-    let stands = both (query_stands db q) _ vars.1 in
+    let stands = both (valid_query db q) _ vars.1 in
     let attributes = both (attrs_stand (map target_attr (targets_of q))) _ stands.1 in
     let listed = both (lists_few_vars q) _ attributes.1 in
     let few = both (nat_le (variables q) most_variables) _ listed.1 in
@@ -175,15 +175,15 @@ fit_permit db rel permit spelled fits =
     let user = both (user_is_named permit.user) (are_rights permit.ops && qual_is_spelled permit.qual) spelled in
     let rights = both (are_rights permit.ops) (qual_is_spelled permit.qual) user.1 in
     let parts = both (row_qual_fits db rel permit.qual) (listed_attrs_fit db rel permit) fits in
-    let named = both (can_be_ranged_over db rel) (row_qual_stands db rel permit.qual && row_qual_is_small permit.qual) parts.0 in
-    let qual = both (row_qual_stands db rel permit.qual) (row_qual_is_small permit.qual) named.1 in
+    let named = both (can_be_ranged_over db rel) (valid_row_qual db rel permit.qual && row_qual_is_small permit.qual) parts.0 in
+    let qual = both (valid_row_qual db rel permit.qual) (row_qual_is_small permit.qual) named.1 in
     let attrs = both (permit_attrs_stand db rel permit.attrs) (nat_le (length permit.attrs) most_listed_attributes) parts.1 in
     record { there = named_is_ranged db rel named.0; user = user.0; attrs = attrs.0; lists = each _ _ attrs.1 rights.0; qual = qual.0; storable = each _ _ qual.1 rights.1 }
 
 pub fit_rule : (db : Db) (rel : RelKey) (rule : Rule) → IsTrue (qual_is_spelled rule.qual) → IsTrue (row_qual_fits db rel rule.qual) → IsFitRule db rel rule
 fit_rule db rel rule spelled fits =
-    let named = both (can_be_ranged_over db rel) (row_qual_stands db rel rule.qual && row_qual_is_small rule.qual) fits in
-    let qual = both (row_qual_stands db rel rule.qual) (row_qual_is_small rule.qual) named.1 in
+    let named = both (can_be_ranged_over db rel) (valid_row_qual db rel rule.qual && row_qual_is_small rule.qual) fits in
+    let qual = both (valid_row_qual db rel rule.qual) (row_qual_is_small rule.qual) named.1 in
     record { there = named_is_ranged db rel named.0; qual = qual.0; storable = each _ _ qual.1 spelled }
 
 -- ---- every utility

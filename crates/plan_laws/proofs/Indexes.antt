@@ -11,7 +11,7 @@ use Rattle.calculus.specs.Keys.{same_key, key_cmp}
 use Rattle.calculus.specs.Lists.{differ_by}
 use Rattle.calculus.specs.Limits.{most_entries}
 use Rattle.calculus.specs.Database.{Db, Index, entries}
-use Rattle.calculus.specs.IsDatabase.{IsDatabase, key_is_named, index_stands}
+use Rattle.calculus.specs.IsDatabase.{IsDatabase, key_is_named, valid_index}
 use Rattle.plan_laws.proofs.Kept.{both, each, all_filter}
 use Rattle.plan_laws.proofs.Alike.{Alike, levels_stay, vars_stay, queries_stay, expansions_stay, sizes_stay, rules_stay, permits_stay, indexes_stay}
 use Rattle.plan_laws.proofs.Ranging.{indexed_alike}
@@ -23,7 +23,7 @@ pub record IndexesStand (db : Db) (indexes : List Index) : Type 0 where
   pub named : IsTrue (list_all (λ i. key_is_named i.key) (entries (record db { indexes = indexes })))
   pub ascend : IsStrictlySortedBy key_cmp (map (λ x. x.info.key) indexes)
   pub differ : IsTrue (differ_by same_key (map (λ i. i.key) (entries (record db { indexes = indexes }))))
-  pub stand : IsTrue (list_all (index_stands db) indexes)
+  pub stand : IsTrue (list_all (valid_index db) indexes)
   pub few : IsTrue (nat_le (length (entries (record db { indexes = indexes }))) most_entries)
 
 pub with_indexes : (db : Db) (indexes : List Index) → IsDatabase db → IndexesStand db indexes → IsDatabase (record db { indexes = indexes })
@@ -184,7 +184,7 @@ without_indexes db kept is = with_indexes db (filter kept db.indexes) is (record
       (subst (λ es. IsTrue (list_all (λ i. key_is_named i.key) es)) (sym (together db.indexes)) is.keys_are_named));
   ascend = ascend_fewer kept db.indexes is.indexes_ascend;
   differ = subst (λ es. IsTrue (differ_by same_key (keys es))) (together later) (differ_fewer front kept db.indexes (subst (λ es. IsTrue (differ_by same_key (keys es))) (sym (together db.indexes)) is.keys_differ));
-  stand = all_filter (index_stands db) kept db.indexes is.indexes_stand;
+  stand = all_filter (valid_index db) kept db.indexes is.indexes_stand;
   few = subst (λ es. IsTrue (nat_le (length es) most_entries)) (together later)
       (still_few (length (front ++ infos later)) (length (front ++ infos db.indexes)) (fewer_entries front kept db.indexes)
       (subst (λ es. IsTrue (nat_le (length es) most_entries)) (sym (together db.indexes)) is.few_entries));

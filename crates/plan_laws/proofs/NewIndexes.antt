@@ -19,9 +19,9 @@ use Rattle.calculus.specs.Keys.{key_of, same_key, key_cmp}
 use Rattle.calculus.specs.Lists.{insert_by, differ_by}
 use Rattle.calculus.specs.Limits.{most_entries}
 use Rattle.calculus.specs.Database.{Db, Index, entries, is_relation, is_there}
-use Rattle.calculus.specs.IsDatabase.{IsDatabase, key_is_named, index_stands}
+use Rattle.calculus.specs.IsDatabase.{IsDatabase, key_is_named, valid_index}
 use Rattle.calculus.specs.Change.{laid, index_info, names_what_is_there, adds_what_is_new, lists_once, IsLawful}
-use Rattle.quel_meaning.specs.Planned.{planned, plan_causes, plan_change}
+use Rattle.quel_meaning.specs.Planned.{planned, plan_refusals, plan_change}
 use Rattle.quel_meaning.proofs.InOrder.{insert_as, insert-cons, in_order-insert}
 use Rattle.plan_laws.specs.Fitting.{IsFitIndex}
 use Rattle.plan_laws.proofs.Kept.{both, each, all_insert}
@@ -196,7 +196,7 @@ index_lawful db base name ks is fit relation = record {
       ascend = sorted_unmapped later (in_order-insert (on_total (λ (x : Index). x.info.key) key_total) new db.indexes (sorted_mapped db.indexes is.indexes_ascend));
       differ = subst (λ es. IsTrue (differ_by same_key (keys es))) (together later)
           (differ_with front new db.indexes is_none (subst (λ es. IsTrue (differ_by same_key (keys es))) (sym (together db.indexes)) is.keys_differ));
-      stand = all_insert by_key (index_stands db) new db.indexes (each _ _ relation (each true _ refl (each _ _ fit.some fit.places))) is.indexes_stand;
+      stand = all_insert by_key (valid_index db) new db.indexes (each _ _ relation (each true _ refl (each _ _ fit.some fit.places))) is.indexes_stand;
       few = subst (λ es. IsTrue (nat_le (length es) most_entries)) (together later)
           (room (length (front ++ infos later)) (length (front ++ infos db.indexes)) (one_more front new db.indexes)
           (subst (λ es. IsTrue (nat_lt (length es) most_entries)) (sym (together db.indexes)) fit.room));
@@ -204,8 +204,8 @@ index_lawful db base name ks is fit relation = record {
 
 pub index_planned : (db : Db) (user : List ℕ) (base : RelKey) (name : List ℕ) (ks : List ℕ) (made : DbChange) → IsDatabase db → IsFitIndex db base name ks
     → planned db user (utility.Index base name ks) ≡ Ok made → IsLawful db made
-unfolding plan_causes plan_change
+unfolding plan_refusals plan_change
 index_planned db user base name ks made is fit e =
     let plan = not_refused db user (utility.Index base name ks) made e in
-    let absent = all_absent (plan_causes db user (utility.Index base name ks)) plan.0 in
+    let absent = all_absent (plan_refusals db user (utility.Index base name ks)) plan.0 in
     subst (IsLawful db) plan.1 (index_lawful db base name ks is fit (base_relation db base fit.there absent.0 absent.1.0))

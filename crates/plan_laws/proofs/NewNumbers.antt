@@ -12,7 +12,7 @@ use Rattle.calculus.specs.Keys.{same_key, numbered_cmp}
 use Rattle.calculus.specs.Lists.{has_number, insert_by}
 use Rattle.calculus.specs.Limits.{most_permits, most_rules, greatest_number}
 use Rattle.calculus.specs.Database.{Db, Relation, is_relation, rules_on, permits_on}
-use Rattle.calculus.specs.IsDatabase.{IsDatabase, row_qual_stands, permit_stands}
+use Rattle.calculus.specs.IsDatabase.{IsDatabase, valid_row_qual, valid_permit}
 use Rattle.calculus.specs.Storable.{row_qual_is_storable, permit_lists_are_storable}
 use Rattle.calculus.specs.Change.{laid, permit_numbers, rule_numbers, names_what_is_there, adds_what_is_new, lists_once, IsLawful}
 use Rattle.quel_meaning.specs.Planned.{next_number, is_past_limit}
@@ -88,7 +88,7 @@ permit_lawful db rel permit is fit relation owner few =
     own : count (of_key rel) db.permits < most_permits
     own = omega (arith, limit.0, length-map (permits_on db rel) (λ p. p.number), counted db.permits rel)
 
-    new : IsTrue (permit_stands db rel numbered)
+    new : IsTrue (valid_permit db rel numbered)
     new = each _ _ relation (each _ _ owner (each _ _ fit.user (each _ _ fit.attrs fit.qual)))
 
     put : (test : RelKey × Permit → Bool) → IsTrue (test (rel, numbered)) → IsTrue (list_all test db.permits) → IsTrue (list_all test later)
@@ -102,7 +102,7 @@ permit_lawful db rel permit is fit relation owner few =
     stand : PermitsStand db later
     stand = record {
       ascend = in_order-insert (numbered_total (λ p. p.number)) (rel, numbered) db.permits is.permits_ascend;
-      stand = put (λ p. permit_stands db p.0 p.1) new is.permits_stand;
+      stand = put (λ p. valid_permit db p.0 p.1) new is.permits_stand;
       are_storable = put (λ p. row_qual_is_storable p.1.qual) fit.storable is.storable_permits;
       have_storable_lists = put (λ p. permit_lists_are_storable p.1) fit.lists is.storable_lists;
       are_few = all_imply (λ (r : Relation). nat_le (length (permits_on db r.info.key)) most_permits) (λ r. nat_le (length (permits_on (record db { permits = later }) r.info.key)) most_permits)
@@ -133,7 +133,7 @@ rule_lawful db rel rule is fit relation few =
     own : count (of_key rel) db.rules < most_rules
     own = omega (arith, limit.0, length-map (rules_on db rel) (λ p. p.number), counted db.rules rel)
 
-    new : IsTrue (is_relation db rel && row_qual_stands db rel rule.qual)
+    new : IsTrue (is_relation db rel && valid_row_qual db rel rule.qual)
     new = each _ _ relation fit.qual
 
     put : (test : RelKey × Rule → Bool) → IsTrue (test (rel, numbered)) → IsTrue (list_all test db.rules) → IsTrue (list_all test later)
@@ -147,7 +147,7 @@ rule_lawful db rel rule is fit relation few =
     stand : RulesStand db later
     stand = record {
       ascend = in_order-insert (numbered_total (λ p. p.number)) (rel, numbered) db.rules is.rules_ascend;
-      stand = put (λ p. is_relation db p.0 && row_qual_stands db p.0 p.1.qual) new is.rules_stand;
+      stand = put (λ p. is_relation db p.0 && valid_row_qual db p.0 p.1.qual) new is.rules_stand;
       are_storable = put (λ p. row_qual_is_storable p.1.qual) fit.storable is.storable_rules;
       are_few = all_imply (λ (r : Relation). nat_le (length (rules_on db r.info.key)) most_rules) (λ r. nat_le (length (rules_on (record db { rules = later }) r.info.key)) most_rules)
           (λ r t. few_later r.info.key (le_is (length (rules_on db r.info.key)) most_rules t)) db.relations is.few_rules;

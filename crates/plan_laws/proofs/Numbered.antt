@@ -11,7 +11,7 @@ use Rattle.calculus.specs.Limits.{most_permits, most_rules, greatest_number}
 use Rattle.calculus.specs.Database.{Db, is_relation, rules_on, permits_on}
 use Rattle.calculus.specs.Catalogue.{catalogue_at}
 use Rattle.calculus.specs.Stored.{range_at}
-use Rattle.calculus.specs.IsDatabase.{IsDatabase, row_qual_stands, permit_stands}
+use Rattle.calculus.specs.IsDatabase.{IsDatabase, valid_row_qual, valid_permit}
 use Rattle.calculus.specs.Storable.{row_qual_is_storable, permit_lists_are_storable}
 use Rattle.plan_laws.proofs.Alike.{Alike, alike_itself, levels_stay, vars_stay, queries_stay, expansions_stay, sizes_stay, rules_stay, permits_stay, indexes_stay}
 
@@ -22,7 +22,7 @@ permits_alike db permits = record { ranges = λ key. alike_itself (range_at db k
 -- these permits may stand in the database
 pub record PermitsStand (db : Db) (permits : List (RelKey × Permit)) : Type 0 where
   pub ascend : IsStrictlySortedBy (numbered_cmp (λ p. p.number)) permits
-  pub stand : IsTrue (list_all (λ p. permit_stands db p.0 p.1) permits)
+  pub stand : IsTrue (list_all (λ p. valid_permit db p.0 p.1) permits)
   pub are_storable : IsTrue (list_all (λ p. row_qual_is_storable p.1.qual) permits)
   pub have_storable_lists : IsTrue (list_all (λ p. permit_lists_are_storable p.1) permits)
   pub are_few : IsTrue (list_all (λ r. nat_le (length (permits_on (record db { permits = permits }) r.info.key)) most_permits) db.relations)
@@ -80,7 +80,7 @@ rules_alike db rules = record { ranges = λ key. alike_itself (range_at db key);
 -- these rules may stand in the database
 pub record RulesStand (db : Db) (rules : List (RelKey × Rule)) : Type 0 where
   pub ascend : IsStrictlySortedBy (numbered_cmp (λ r. r.number)) rules
-  pub stand : IsTrue (list_all (λ p. is_relation db p.0 && row_qual_stands db p.0 p.1.qual) rules)
+  pub stand : IsTrue (list_all (λ p. is_relation db p.0 && valid_row_qual db p.0 p.1.qual) rules)
   pub are_storable : IsTrue (list_all (λ p. row_qual_is_storable p.1.qual) rules)
   pub are_few : IsTrue (list_all (λ r. nat_le (length (rules_on (record db { rules = rules }) r.info.key)) most_rules) db.relations)
   pub have_small_numbers : IsTrue (list_all (λ p. nat_le p.1.number greatest_number) rules)

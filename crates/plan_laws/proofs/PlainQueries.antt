@@ -12,7 +12,7 @@ use Rattle.calculus.specs.Tree.{both as and_both}
 use Rattle.calculus.specs.Kinds.{kind_of, kinds_fit, number_kind, operated_kind, joined_kind, comparable, is_text_kind, is_number_kind}
 use Rattle.calculus.specs.QueryParts.{term_aggregates, qual_aggregates, query_aggregates, targets_of, qual_of}
 use Rattle.calculus.specs.Database.{Db}
-use Rattle.calculus.specs.IsDatabase.{query_stands, has_kind, var_kinds}
+use Rattle.calculus.specs.IsDatabase.{valid_query, has_kind, var_kinds}
 use Rattle.plan_laws.proofs.Kept.{both}
 
 -- the kind is there
@@ -95,7 +95,7 @@ targets_plain (t ∷ ts) vars h =
     let parts = both (has_kind (kind_of t.term vars) t.kind) (list_all (λ t. has_kind (kind_of t.term vars) t.kind) ts) h in
     none_and_none (term_aggregates t.term) (flat_map (λ t. term_aggregates t.term) ts) (term_plain t.term vars (of_kind (kind_of t.term vars) t.kind parts.0)) (targets_plain ts vars parts.1)
 
-pub query_plain : (db : Db) (q : Query) → IsTrue (query_stands db q) → query_aggregates q ≡ []
+pub query_plain : (db : Db) (q : Query) → IsTrue (valid_query db q) → query_aggregates q ≡ []
 query_plain db q t =
     let parts = both (list_all (λ t. has_kind (kind_of t.term (var_kinds db q)) t.kind) (targets_of q)) (kinds_fit (qual_of q) (var_kinds db q)) t in
     none_and_none (flat_map (λ t. term_aggregates t.term) (targets_of q)) (qual_aggregates (qual_of q)) (targets_plain (targets_of q) (var_kinds db q) parts.0) (qual_plain (qual_of q) (var_kinds db q) parts.1)

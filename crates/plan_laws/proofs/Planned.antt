@@ -11,8 +11,8 @@ use Rattle.calculus.specs.Keys.{same_key}
 use Rattle.calculus.specs.Database.{Db, Relation, View, relation_at, view_at, is_relation}
 use Rattle.calculus.specs.Catalogue.{relation_key, attribute_key, is_catalogue, catalogue_at, relation_info, attribute_info, relation_row, attribute_rows, all_entries}
 use Rattle.calculus.specs.Stored.{Range, Kept, Viewed, range_at}
-use Rattle.calculus.specs.Replacement.{first_cause}
-use Rattle.quel_meaning.specs.Planned.{plan_causes, plan_change, planned, has_view, is_anothers, is_none_to_permit}
+use Rattle.calculus.specs.Replacement.{first_refusal}
+use Rattle.quel_meaning.specs.Planned.{plan_refusals, plan_change, planned, has_view, is_not_the_owner, may_not_grant}
 use Rattle.plan_laws.specs.Fitting.{is_ranged}
 
 -- ---- no cause is there
@@ -26,23 +26,23 @@ is_not true h = refl
 is_not false h = cc h
 
 -- where no cause is there, each is absent
-pub all_absent : (causes : List (ℕ × Bool)) → first_cause causes ≡ None → AllByRecursion (λ c. c.1 ≡ false) causes
+pub all_absent : (refusals : List (ℕ × Bool)) → first_refusal refusals ≡ None → AllByRecursion (λ c. c.1 ≡ false) refusals
 all_absent [] h = tt
-all_absent (c ∷ causes) h = go c.1 h (all_absent causes)
+all_absent (c ∷ refusals) h = go c.1 h (all_absent refusals)
   where
-    go : (b : Bool) → (elim b as (λ b. Option ℕ) [ true ↦ Some c.0 | false ↦ first_cause causes ]) ≡ None → (first_cause causes ≡ None → AllByRecursion (λ c. c.1 ≡ false) causes)
-        → (b ≡ false) × AllByRecursion (λ c. c.1 ≡ false) causes
+    go : (b : Bool) → (elim b as (λ b. Option ℕ) [ true ↦ Some c.0 | false ↦ first_refusal refusals ]) ≡ None → (first_refusal refusals ≡ None → AllByRecursion (λ c. c.1 ≡ false) refusals)
+        → (b ≡ false) × AllByRecursion (λ c. c.1 ≡ false) refusals
     go true h later = cc h
     go false h later = (refl, later h)
 
 -- a plan that isn't refused has no cause, and is the change
 pub not_refused : (db : Db) (user : List ℕ) (u : Utility) (change : DbChange) → planned db user u ≡ Ok change
-    → (first_cause (plan_causes db user u) ≡ None) × (plan_change db u ≡ change)
+    → (first_refusal (plan_refusals db user u) ≡ None) × (plan_change db u ≡ change)
 unfolding planned
-not_refused db user u change h = go (first_cause (plan_causes db user u)) refl h
+not_refused db user u change h = go (first_refusal (plan_refusals db user u)) refl h
   where
-    go : (o : Option ℕ) → first_cause (plan_causes db user u) ≡ o → (elim o as (λ o. Result DbChange ℕ) [ None ↦ Ok (plan_change db u) | Some number ↦ Err number ]) ≡ Ok change
-        → (first_cause (plan_causes db user u) ≡ None) × (plan_change db u ≡ change)
+    go : (o : Option ℕ) → first_refusal (plan_refusals db user u) ≡ o → (elim o as (λ o. Result DbChange ℕ) [ None ↦ Ok (plan_change db u) | Some number ↦ Err number ]) ≡ Ok change
+        → (first_refusal (plan_refusals db user u) ≡ None) × (plan_change db u ≡ change)
     go None e h = (e, cc h)
     go (Some number) e h = cc h
 
@@ -78,11 +78,11 @@ base_relation db key there catalogue view = go (relation_at db key) (view_at db 
 
 -- ---- the owner
 
-pub owner_is : (user : List ℕ) (key : RelKey) → is_anothers user key ≡ false → key.owner ≡ user
+pub owner_is : (user : List ℕ) (key : RelKey) → is_not_the_owner user key ≡ false → key.owner ≡ user
 owner_is user key h = (bytes_eq-Decides key.owner user).0 (is_not (bytes_eq key.owner user) h)
 
 -- one who may give permits on it is the administrator, and its owner
-pub administrator_owns : (db : Db) (user : List ℕ) (key : RelKey) → is_none_to_permit db user key ≡ false → bytes_eq key.owner db.dba ≡ true
+pub administrator_owns : (db : Db) (user : List ℕ) (key : RelKey) → may_not_grant db user key ≡ false → bytes_eq key.owner db.dba ≡ true
 administrator_owns db user key h =
-    let parts = neither (is_anothers user key) (not (bytes_eq db.dba user)) h in
+    let parts = neither (is_not_the_owner user key) (not (bytes_eq db.dba user)) h in
     (bytes_eq-Decides key.owner db.dba).1 (owner_is user key parts.0 ∙ sym ((bytes_eq-Decides db.dba user).0 (is_not (bytes_eq db.dba user) parts.1)))

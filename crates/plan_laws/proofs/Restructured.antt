@@ -11,10 +11,10 @@ use Rattle.calculus.specs.declared.change.DbChange.{DbChange}
 use Rattle.calculus.specs.declared.change.DbChange.TheVariants as change
 use Rattle.calculus.specs.Keys.{same_key}
 use Rattle.calculus.specs.Database.{Db, Relation, Index, relation_at, is_relation}
-use Rattle.calculus.specs.IsDatabase.{IsDatabase, attrs_stand, keys_stand, structure_stands}
+use Rattle.calculus.specs.IsDatabase.{IsDatabase, attrs_stand, keys_stand, valid_structure}
 use Rattle.calculus.specs.Change.{laid, restructured, names_what_is_there, adds_what_is_new, lists_once, IsLawful}
 use Rattle.quel_meaning.specs.Structures.{structure_keys, first_or_these}
-use Rattle.quel_meaning.specs.Planned.{planned, plan_causes, plan_change}
+use Rattle.quel_meaning.specs.Planned.{planned, plan_refusals, plan_change}
 use Rattle.calculus.specs.Lists.{is_any}
 use Rattle.calculus.specs.Structures.{is_structure, is_keyed}
 use Rattle.plan_laws.specs.Fitting.{IsFitStructure}
@@ -32,7 +32,7 @@ first_is_key x attrs = ap (λ b. (b && true) && true) (some (length attrs))
 
 -- keys of attributes that stand make a structure that stands, the first attribute being the key where none is named
 structure_lawful : (attrs : List Attr) (to : Spec) (keys : List ℕ) → IsTrue (is_structure to) → IsTrue (attrs_stand attrs) → IsTrue (keys_stand attrs keys)
-    → (rel : RelKey) → IsTrue (structure_stands (record { key = rel; spec = to; attrs = attrs; keys = structure_keys to keys }))
+    → (rel : RelKey) → IsTrue (valid_structure (record { key = rel; spec = to; attrs = attrs; keys = structure_keys to keys }))
 structure_lawful attrs to keys structure stand places rel = go (is_keyed to)
   where
     keyed : (attrs : List Attr) (keys : List ℕ) → IsTrue (attrs_stand attrs) → IsTrue (keys_stand attrs keys) → IsTrue (is_any (first_or_these keys) && keys_stand attrs (first_or_these keys))
@@ -84,7 +84,7 @@ restructured_lawful db rel to keys is fit relation = record {
     known = both_each Owned (λ r. IsTrue (attrs_stand r.info.attrs)) db.relations (owned rel db.relations is.relations_ascend)
         (as_each (λ r. attrs_stand r.info.attrs) db.relations is.relation_attrs_stand)
 
-    restructure : (r : Relation) → Known r → same_key r.info.key rel ≡ true → IsTrue (structure_stands (change_it r).info)
+    restructure : (r : Relation) → Known r → same_key r.info.key rel ≡ true → IsTrue (valid_structure (change_it r).info)
     restructure r k e =
         structure_lawful r.info.attrs to keys fit.structure k.1 (subst (λ attrs. IsTrue (keys_stand attrs keys)) (its_attrs db rel r (k.0 e)) fit.places) r.info.key
 
@@ -98,8 +98,8 @@ restructured_lawful db rel to keys is fit relation = record {
 
 pub structure_planned : (db : Db) (user : List ℕ) (rel : RelKey) (to : Spec) (keys : List ℕ) (made : DbChange) → IsDatabase db → IsFitStructure db rel to keys
     → planned db user (utility.Modify rel to keys) ≡ Ok made → IsLawful db made
-unfolding plan_causes plan_change
+unfolding plan_refusals plan_change
 structure_planned db user rel to keys made is fit e =
     let plan = not_refused db user (utility.Modify rel to keys) made e in
-    let absent = all_absent (plan_causes db user (utility.Modify rel to keys)) plan.0 in
+    let absent = all_absent (plan_refusals db user (utility.Modify rel to keys)) plan.0 in
     subst (IsLawful db) plan.1 (restructured_lawful db rel to keys is fit (base_relation db rel fit.there absent.0 absent.1.0))

@@ -15,7 +15,7 @@ use Rattle.calculus.specs.Lists.{is_any}
 use Rattle.calculus.specs.Stored.{kinds_at}
 use Rattle.calculus.specs.QueryParts.{vars_of, targets_of, qual_of, query_aggregates}
 use Rattle.calculus.specs.Sizes.{Measure, query_measure, measure_of, level_of, expanded_variables, query_size, source_variables}
-use Rattle.calculus.specs.IsDatabase.{vars_are_there, query_stands, has_kind, row_qual_stands, permit_stands, user_is_named, index_stands, keys_stand}
+use Rattle.calculus.specs.IsDatabase.{vars_are_there, valid_query, has_kind, valid_row_qual, valid_permit, user_is_named, valid_index, keys_stand}
 use Rattle.calculus.specs.Structures.{is_index}
 use Rattle.plan_laws.proofs.Staying.{Staying, map_same, all_same, level_stays_same, query_stays, attrs_stay, kinds_stay, there_stays}
 
@@ -38,7 +38,7 @@ abbrev pub stands_with : List (List Kind) → Query → Bool
 stands_with kinds q = list_all (λ t. has_kind (kind_of t.term kinds) t.kind) (targets_of q) && kinds_fit (qual_of q) kinds
 
 pub queries_hold : (P : RelKey → Type 0) (db later : Db) → Staying P db later → (views : List View) → AllByRecursion (ViewStays P) views
-    → list_all (λ v. query_stands db v.query) views ≡ list_all (λ v. query_stands later v.query) views
+    → list_all (λ v. valid_query db v.query) views ≡ list_all (λ v. valid_query later v.query) views
 queries_hold P db later stay views h = all_same (ViewStays P) _ _ views h
     (λ v s. ap (λ kinds. stands_with kinds v.query) (map_same P (kinds_at db) (kinds_at later) (vars_of v.query) s.vars (λ key p. kinds_stay P db later stay key p)))
 
@@ -62,17 +62,17 @@ expansions_hold P db later stay views h = all_same (ViewStays P) _ _ views h (λ
         ∙ sym (ap (with later (query_measure (measure_of later) v.query)) s.plain)
 
 pub rules_hold : (P : RelKey → Type 0) (db later : Db) → Staying P db later → (rules : List (RelKey × Rule)) → AllByRecursion (λ p. P p.0) rules
-    → list_all (λ p. is_relation db p.0 && row_qual_stands db p.0 p.1.qual) rules ≡ list_all (λ p. is_relation later p.0 && row_qual_stands later p.0 p.1.qual) rules
+    → list_all (λ p. is_relation db p.0 && valid_row_qual db p.0 p.1.qual) rules ≡ list_all (λ p. is_relation later p.0 && valid_row_qual later p.0 p.1.qual) rules
 rules_hold P db later stay rules h = all_same (λ p. P p.0) _ _ rules h
     (λ p s i. stay.relations p.0 s i && kinds_fit p.1.qual (kinds_stay P db later stay p.0 s i ∷ []))
 
 pub permits_hold : (P : RelKey → Type 0) (db later : Db) → Staying P db later → db.dba ≡ later.dba → (permits : List (RelKey × Permit)) → AllByRecursion (λ p. P p.0) permits
-    → list_all (λ p. permit_stands db p.0 p.1) permits ≡ list_all (λ p. permit_stands later p.0 p.1) permits
+    → list_all (λ p. valid_permit db p.0 p.1) permits ≡ list_all (λ p. valid_permit later p.0 p.1) permits
 permits_hold P db later stay dba permits h = all_same (λ p. P p.0) _ _ permits h
     (λ p s i. stay.relations p.0 s i && (bytes_eq p.0.owner (dba i) && (user_is_named p.1.user
     && (list_all (λ a. nat_lt a (length (attrs_stay P db later stay p.0 s i))) p.1.attrs && kinds_fit p.1.qual (kinds_stay P db later stay p.0 s i ∷ [])))))
 
 pub indexes_hold : (P : RelKey → Type 0) (db later : Db) → Staying P db later → (indexes : List Index) → AllByRecursion (λ x. P x.base) indexes
-    → list_all (index_stands db) indexes ≡ list_all (index_stands later) indexes
+    → list_all (valid_index db) indexes ≡ list_all (valid_index later) indexes
 indexes_hold P db later stay indexes h = all_same (λ x. P x.base) _ _ indexes h (λ x s i. is_index x.info.spec
     && (stay.relations x.base s i && (not (is_any x.info.attrs) && (is_any x.info.keys && keys_stand (attrs_stay P db later stay x.base s i) x.info.keys))))

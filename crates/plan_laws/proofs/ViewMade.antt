@@ -27,9 +27,9 @@ use Rattle.calculus.specs.Stored.{Viewed, range_at, kinds_at}
 use Rattle.calculus.specs.QueryParts.{vars_of, targets_of, query_aggregates}
 use Rattle.calculus.specs.Sizes.{Measure, greater_level, greatest_of, level_above, range_level, level_within, level_of, query_measure, measure_of, variables, expanded_variables, query_size, source_variables}
 use Rattle.calculus.specs.Storable.{query_is_storable}
-use Rattle.calculus.specs.IsDatabase.{IsDatabase, key_is_named, view_info_stands, attrs_stand, attrs_are_targets, same_domain, same_kind, vars_are_there, query_stands, index_stands, row_qual_stands, permit_stands}
+use Rattle.calculus.specs.IsDatabase.{IsDatabase, key_is_named, valid_view_info, attrs_stand, attrs_are_targets, same_domain, same_kind, vars_are_there, valid_query, valid_index, valid_row_qual, valid_permit}
 use Rattle.calculus.specs.Change.{laid, names_what_is_there, adds_what_is_new, lists_once, IsLawful}
-use Rattle.quel_meaning.specs.Planned.{planned, plan_causes, plan_change, view_info, target_attr}
+use Rattle.quel_meaning.specs.Planned.{planned, plan_refusals, plan_change, view_info, target_attr}
 use Rattle.quel_meaning.proofs.InOrder.{in_order-insert}
 use Rattle.plan_laws.specs.Fitting.{IsFitView}
 use Rattle.plan_laws.proofs.Kept.{both, each, all_insert}
@@ -138,7 +138,7 @@ view_lawful db rel q is fit = record {
     rows_ascend = is.rows_ascend;
     rows_fit = is.rows_fit;
     indexes_stand = sym (indexes_hold Other db later stay db.indexes based) ∙ is.indexes_stand;
-    view_infos_stand = put (λ v. view_info_stands v.info) refl is.view_infos_stand;
+    view_infos_stand = put (λ v. valid_view_info v.info) refl is.view_infos_stand;
     view_attrs_stand = put (λ v. attrs_stand v.info.attrs) fit.attributes is.view_attrs_stand;
     view_attrs_are_targets = put (λ v. attrs_are_targets v.info.attrs (targets_of v.query)) (targets_itself (targets_of q)) is.view_attrs_are_targets;
     views_name_what_is_there = put (λ v. vars_are_there later v.query)
@@ -146,7 +146,7 @@ view_lawful db rel q is fit = record {
         (sym (vars_hold Other db later stay db.views views) ∙ is.views_name_what_is_there);
     views_have_levels = put (λ v. is_some (level_of later v.info.key)) (level_of_view later rel new (ranges_over_it db new fit.unused) below)
         (sym (levels_hold Other db later stay db.views views) ∙ is.views_have_levels);
-    view_queries_stand = put (λ v. query_stands later v.query)
+    view_queries_stand = put (λ v. valid_query later v.query)
         (sym (ap (λ kinds. stands_with kinds q) (map_same Other (kinds_at db) (kinds_at later) (vars_of q) own_vars (λ key p. kinds_stay Other db later stay key p))) ∙ fit.stands)
         (sym (queries_hold Other db later stay db.views views) ∙ is.view_queries_stand);
     rules_stand = sym (rules_hold Other db later stay db.rules ruled) ∙ is.rules_stand;
@@ -204,8 +204,8 @@ view_lawful db rel q is fit = record {
     there : AllByRecursion (λ v. IsTrue (vars_are_there db v.query)) db.views
     there = each_true (λ v. vars_are_there db v.query) db.views is.views_name_what_is_there
 
-    stood : AllByRecursion (λ v. IsTrue (query_stands db v.query)) db.views
-    stood = each_true (λ v. query_stands db v.query) db.views is.view_queries_stand
+    stood : AllByRecursion (λ v. IsTrue (valid_query db v.query)) db.views
+    stood = each_true (λ v. valid_query db v.query) db.views is.view_queries_stand
 
     stay : Staying Other db later
     stay = record {
@@ -240,17 +240,17 @@ view_lawful db rel q is fit = record {
         (λ v k. record { key = is_no (same_key rel v.info.key) k.0; vars = vars_other v.query k.1.0; plain = query_plain db v.query k.1.1 })
 
     ruled : AllByRecursion (λ p. Other p.0) db.rules
-    ruled = each_from _ _ db.rules (each_true (λ p. is_relation db p.0 && row_qual_stands db p.0 p.1.qual) db.rules is.rules_stand)
-        (λ p t. ranged_is_other db rel p.0 nothing (relation_is_ranged db p.0 (both (is_relation db p.0) (row_qual_stands db p.0 p.1.qual) t).0))
+    ruled = each_from _ _ db.rules (each_true (λ p. is_relation db p.0 && valid_row_qual db p.0 p.1.qual) db.rules is.rules_stand)
+        (λ p t. ranged_is_other db rel p.0 nothing (relation_is_ranged db p.0 (both (is_relation db p.0) (valid_row_qual db p.0 p.1.qual) t).0))
 
     permitted : AllByRecursion (λ p. Other p.0) db.permits
-    permitted = each_from _ _ db.permits (each_true (λ p. permit_stands db p.0 p.1) db.permits is.permits_stand)
+    permitted = each_from _ _ db.permits (each_true (λ p. valid_permit db p.0 p.1) db.permits is.permits_stand)
         (λ p t. ranged_is_other db rel p.0 nothing (relation_is_ranged db p.0 (both (is_relation db p.0) _ t).0))
 
     based : AllByRecursion (λ x. Other x.base) db.indexes
-    based = each_from _ _ db.indexes (each_true (index_stands db) db.indexes is.indexes_stand) (λ x t. ranged_is_other db rel x.base nothing (relation_is_ranged db x.base (index_based db x t)))
+    based = each_from _ _ db.indexes (each_true (valid_index db) db.indexes is.indexes_stand) (λ x t. ranged_is_other db rel x.base nothing (relation_is_ranged db x.base (index_based db x t)))
 
 pub view_planned : (db : Db) (user : List ℕ) (rel : RelKey) (q : Query) (made : DbChange) → IsDatabase db → IsFitView db rel q
     → planned db user (utility.View rel q) ≡ Ok made → IsLawful db made
-unfolding plan_causes plan_change
+unfolding plan_refusals plan_change
 view_planned db user rel q made is fit e = subst (IsLawful db) (not_refused db user (utility.View rel q) made e).1 (view_lawful db rel q is fit)

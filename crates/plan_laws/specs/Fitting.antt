@@ -17,7 +17,7 @@ use Rattle.calculus.specs.Stored.{range_at, attrs_at}
 use Rattle.calculus.specs.QueryParts.{vars_of}
 use Rattle.calculus.specs.Sizes.{level_within, variables, expanded_variables, query_size}
 use Rattle.quel_meaning.specs.Planned.{view_info}
-use Rattle.calculus.specs.IsDatabase.{user_is_named, permit_attrs_stand, row_qual_stands, keys_stand, key_is_named, attrs_stand, are_stored, vars_are_there, query_stands}
+use Rattle.calculus.specs.IsDatabase.{user_is_named, permit_attrs_stand, valid_row_qual, keys_stand, key_is_named, attrs_stand, are_stored, vars_are_there, valid_query}
 use Rattle.calculus.specs.Storable.{row_qual_is_storable, permit_lists_are_storable, query_is_storable}
 use Rattle.calculus.specs.Structures.{is_structure}
 
@@ -36,13 +36,13 @@ pub record IsFitPermit (db : Db) (rel : RelKey) (permit : Permit) : Type 0 where
   pub user : IsTrue (user_is_named permit.user)
   pub attrs : IsTrue (permit_attrs_stand db rel permit.attrs)
   pub lists : IsTrue (permit_lists_are_storable permit)
-  pub qual : IsTrue (row_qual_stands db rel permit.qual)
+  pub qual : IsTrue (valid_row_qual db rel permit.qual)
   pub storable : IsTrue (row_qual_is_storable permit.qual)
 
 -- a rule on what is there: its qualification fits and can be stored
 pub record IsFitRule (db : Db) (rel : RelKey) (rule : Rule) : Type 0 where
   pub there : IsTrue (is_ranged db rel)
-  pub qual : IsTrue (row_qual_stands db rel rule.qual)
+  pub qual : IsTrue (valid_row_qual db rel rule.qual)
   pub storable : IsTrue (row_qual_is_storable rule.qual)
 
 -- a structure for what is there: its keys are places of attributes, all different, and not too many
@@ -76,7 +76,7 @@ pub record IsFitView (db : Db) (rel : RelKey) (q : Query) : Type 0 where
   pub attributes : IsTrue (attrs_stand (view_info rel q).attrs)
   pub vars : IsTrue (vars_are_there db q)
   pub levels : IsTrue (list_all (λ key. is_some (level_within 15 db key)) (vars_of q))
-  pub stands : IsTrue (query_stands db q)
+  pub stands : IsTrue (valid_query db q)
   pub few_listed : IsTrue (nat_le (length (vars_of q)) most_expanded_variables)
   pub few : IsTrue (nat_le (variables q) most_variables)
   pub few_expanded : IsTrue (nat_le (expanded_variables db q) most_expanded_variables)

@@ -14,7 +14,7 @@ use Rattle.quel_check.proofs.InnerForms.{length_joined}
 use Rattle.quel_check.proofs.OnceMore.{still_there}
 use Rattle.quel_check.proofs.TreeForms.{both_so}
 use Rattle.quel_meaning.proofs.Keys.{bytes_same}
-use Rattle.quel_meaning.specs.Aggregates.{aggregates_stand, aggregate_stands, holds_another, is_one_plain, keeps_a_text}
+use Rattle.quel_meaning.specs.Aggregates.{aggregates_allowed, aggregate_allowed, holds_another, is_one_plain, keeps_a_text}
 use Rattle.quel_meaning.specs.Scope.{Scope}
 use Rattle.quel_meaning.specs.WrittenParts.{once, vars_in, first_vars, outer_vars_in_item, outer_vars_in_qual, items_of, where_of, text_aggregates, aggregate_vars, aggregates_in_item, aggregates_in_qual}
 use Rattle.quel_meaning.specs.WrittenTree.{Vars, qual_tree}
@@ -97,8 +97,8 @@ one_of s inner (var ∷ []) h e = go (is_among inner var) e
     go false k = absurd (cc k)
 one_of s inner (var ∷ other ∷ more) h e = absurd (cc h)
 
-over_each : (s : Scope) (inner : Vars) (gs : List AggTerm) → are_among inner (fronts gs) ≡ true → list_all (aggregate_stands s) gs ≡ true → list_all (is_over inner) gs ≡ true
-unfolding aggregate_stands
+over_each : (s : Scope) (inner : Vars) (gs : List AggTerm) → are_among inner (fronts gs) ≡ true → list_all (aggregate_allowed s) gs ≡ true → list_all (is_over inner) gs ≡ true
+unfolding aggregate_allowed
 over_each s inner [] m h = refl
 over_each s inner (g ∷ gs) m h =
     let ms = both_so _ _ (sym (list_all-append (is_among inner) (front (aggregate_vars g)) (fronts gs)) ∙ m) in
@@ -106,22 +106,22 @@ over_each s inner (g ∷ gs) m h =
     let parts = both_so (not (holds_another g)) (is_one_plain s (aggregate_vars g)) hs.0 in
     (λ i. (parts.0 i && one_of s inner (aggregate_vars g) parts.1 ms.0 i) && over_each s inner gs ms.1 hs.1 i)
 
-none_each : (s : Scope) (gs : List AggTerm) → not (is_any gs) ≡ true → list_all (aggregate_stands s) gs ≡ true
+none_each : (s : Scope) (gs : List AggTerm) → not (is_any gs) ≡ true → list_all (aggregate_allowed s) gs ≡ true
 none_each s [] h = refl
 none_each s (g ∷ gs) h = absurd (cc h)
 
 -- each aggregate of a statement whose aggregates stand may stand
-pub each_stands : (s : Scope) (stmt : Statement) → aggregates_stand s stmt ≡ true → list_all (aggregate_stands s) (text_aggregates stmt) ≡ true
-unfolding aggregates_stand
+pub each_stands : (s : Scope) (stmt : Statement) → aggregates_allowed s stmt ≡ true → list_all (aggregate_allowed s) (text_aggregates stmt) ≡ true
+unfolding aggregates_allowed
 each_stands s stmt h = go (keeps_a_text stmt) h
   where
-    go : (b : Bool) → elim b as (λ c. Bool) [ true ↦ not (is_any (text_aggregates stmt)) | false ↦ list_all (aggregate_stands s) (text_aggregates stmt) ] ≡ true
-        → list_all (aggregate_stands s) (text_aggregates stmt) ≡ true
+    go : (b : Bool) → elim b as (λ c. Bool) [ true ↦ not (is_any (text_aggregates stmt)) | false ↦ list_all (aggregate_allowed s) (text_aggregates stmt) ] ≡ true
+        → list_all (aggregate_allowed s) (text_aggregates stmt) ≡ true
     go true k = none_each s (text_aggregates stmt) k
     go false k = k
 
 -- so each is over one of the variables in aggregates
-pub over_inner : (s : Scope) (stmt : Statement) → aggregates_stand s stmt ≡ true → list_all (is_over (inner_vars stmt)) (text_aggregates stmt) ≡ true
+pub over_inner : (s : Scope) (stmt : Statement) → aggregates_allowed s stmt ≡ true → list_all (is_over (inner_vars stmt)) (text_aggregates stmt) ≡ true
 over_inner s stmt h = over_each s (inner_vars stmt) (text_aggregates stmt) (themselves (inner_vars stmt)) (each_stands s stmt h)
 
 one_front : (s : Scope) (vars : Vars) → is_one_plain s vars ≡ true → length (front vars) ≡ 1
@@ -129,8 +129,8 @@ one_front s [] h = absurd (cc h)
 one_front s (var ∷ []) h = refl
 one_front s (var ∷ other ∷ more) h = absurd (cc h)
 
-as_many : (s : Scope) (gs : List AggTerm) → list_all (aggregate_stands s) gs ≡ true → length (fronts gs) ≡ length gs
-unfolding aggregate_stands
+as_many : (s : Scope) (gs : List AggTerm) → list_all (aggregate_allowed s) gs ≡ true → length (fronts gs) ≡ length gs
+unfolding aggregate_allowed
 as_many s [] h = refl
 as_many s (g ∷ gs) h =
     let hs = both_so (not (holds_another g) && is_one_plain s (aggregate_vars g)) _ h in
@@ -141,14 +141,14 @@ as_many s (g ∷ gs) h =
     omega (arith, one, later, all)
 
 -- there are as many variables in aggregates as aggregates
-pub inner_many : (s : Scope) (stmt : Statement) → aggregates_stand s stmt ≡ true → length (inner_vars stmt) ≡ length (text_aggregates stmt)
+pub inner_many : (s : Scope) (stmt : Statement) → aggregates_allowed s stmt ≡ true → length (inner_vars stmt) ≡ length (text_aggregates stmt)
 inner_many s stmt h = as_many s (text_aggregates stmt) (each_stands s stmt h)
 
 -- the tree of the qualification is that of the statement's
 pub where_from : (vars : Vars) (infos : List RelInfo) (inner : Vars) (inner_infos : List RelInfo) (s : Statement) (slot : ℕ) (found : QQual)
     → (length (flat_map aggregates_in_item (items_of s)) ≤ 65535 → slot ≡ length (flat_map aggregates_in_item (items_of s)))
     → IsQualFrom vars infos inner inner_infos slot (where_of s) found
-    → (scope : Scope) → vars ≡ vars_in s → inner ≡ inner_vars s → Knows scope vars infos → Knows scope inner inner_infos → aggregates_stand scope s ≡ true → found ≡ where_tree scope s
+    → (scope : Scope) → vars ≡ vars_in s → inner ≡ inner_vars s → Knows scope vars infos → Knows scope inner inner_infos → aggregates_allowed scope s ≡ true → found ≡ where_tree scope s
 unfolding IsQualFrom where_tree
 where_from vars infos inner inner_infos s slot found next h scope e f k ki stand =
     let among : are_among vars (outer_vars_in_qual (where_of s)) ≡ true = ap (λ vs. are_among vs (outer_vars_in_qual (where_of s))) e ∙ qual_among s in

@@ -5,7 +5,7 @@ ghost use Rattle.std.specs.List.{list_any};
 ghost use Rattle.calculus.specs.Lists.{is_any};
 ghost use Rattle.quel_meaning.specs.WrittenParts.{aggregates_in, aggregates_in_item, aggregates_in_qual, text_aggregates, where_of};
 
-use crate::parts::{items_of, where_of};
+use crate::statement_parts::{items_of, where_of};
 use calculus::{Item, Qual, Statement, Term};
 
 /// Whether a term holds an aggregate. Takes no memory.

@@ -8,7 +8,7 @@ ghost use Rattle.quel_meaning.specs.WrittenParts.{aggregate_vars, aggregates_in,
 
 use crate::mentions::{Mention, push_aggregate};
 use crate::names::once;
-use crate::parts::{items_of, where_of};
+use crate::statement_parts::{items_of, where_of};
 use calculus::{AggTerm, Item, List, Name, OutOfMemory, Qual, Statement, Term};
 use std::alloc::Global;
 

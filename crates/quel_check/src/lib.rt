@@ -7,10 +7,10 @@ mod inner_trees;
 mod known;
 mod mentions;
 mod names;
-mod parts;
 mod places;
 mod range_table;
 mod slots;
+mod statement_parts;
 mod trees;
 mod whole_trees;
 

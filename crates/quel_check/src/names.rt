@@ -5,7 +5,7 @@ ghost use Rattle.std.specs.Option.{option_to_list};
 ghost use Rattle.std.specs.List.{list_any};
 ghost use Rattle.quel_meaning.specs.WrittenParts.{first_vars, once, outer_vars, outer_vars_in_item, outer_vars_in_qual, items_of, where_of, vars_in};
 
-use crate::parts::{items_of, where_of};
+use crate::statement_parts::{items_of, where_of};
 use calculus::{Item, List, Name, OutOfMemory, Qual, Statement, Term};
 use std::alloc::Global;
 

@@ -9,8 +9,8 @@ ghost use Rattle.quel_meaning.specs.WrittenParts.{text_aggregates, vars_in, wher
 ghost use Rattle.quel_meaning.specs.WrittenQuery.{where_tree};
 ghost use Rattle.quel_meaning.specs.WrittenTree.{attr_in, var_place};
 
-use crate::parts::where_of;
 use crate::places::{attr_place, compared, var_place};
+use crate::statement_parts::where_of;
 use calculus::{Boxed, Name, OutOfMemory, QQual, QTerm, Qual, RelInfo, Statement, Term};
 use memory::both;
 use std::alloc::Global;

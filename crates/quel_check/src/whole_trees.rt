@@ -2,7 +2,7 @@
 
 ghost use Rattle.std.specs.Prelude.{◌≡◌, true, IfOk};
 ghost use Rattle.quel_check.specs.Known.{IsQualFrom, IsTermFrom, Knows, inner_vars};
-ghost use Rattle.quel_meaning.specs.Aggregates.{aggregates_stand};
+ghost use Rattle.quel_meaning.specs.Aggregates.{aggregates_allowed};
 ghost use Rattle.quel_meaning.specs.Scope.{Scope};
 ghost use Rattle.quel_meaning.specs.WrittenParts.{vars_in, where_of};
 ghost use Rattle.quel_meaning.specs.WrittenQuery.{where_tree};
@@ -11,9 +11,9 @@ ghost use Rattle.quel_meaning.specs.WrittenParts.{aggregates_in_item, items_of};
 
 use crate::inner_trees::aggregate_tree;
 use crate::known::Known;
-use crate::parts::{items_of, where_of};
 use crate::places::compared;
 use crate::slots::{slot_behind, slot_behind_items, slot_behind_qual};
+use crate::statement_parts::{items_of, where_of};
 use crate::trees::term_tree;
 use calculus::{Boxed, OutOfMemory, QQual, QTerm, Qual, Statement, Term};
 use memory::both;
@@ -139,7 +139,7 @@ fn qual_tree_behind(
 /// The tree of a statement's qualification, where the statement's aggregates may stand, and `known` are
 /// its variables with what they range over.
 pub fn where_tree_from(alloc: Global, known: Known<'_>, s: &Statement) -> Result<QQual, OutOfMemory>
-    ensures { IfOk result (λ tree. (scope : Scope) → known.entry.vars.now ≡ vars_in s.now → known.entry.inner_vars.now ≡ inner_vars s.now → Knows scope known.entry.vars.now known.entry.infos.now → Knows scope known.entry.inner_vars.now known.entry.inner_infos.now → aggregates_stand scope s.now ≡ true → tree ≡ where_tree scope s.now) }
+    ensures { IfOk result (λ tree. (scope : Scope) → known.entry.vars.now ≡ vars_in s.now → known.entry.inner_vars.now ≡ inner_vars s.now → Knows scope known.entry.vars.now known.entry.infos.now → Knows scope known.entry.inner_vars.now known.entry.inner_infos.now → aggregates_allowed scope s.now ≡ true → tree ≡ where_tree scope s.now) }
 {
     qual_tree_behind(alloc, known, slot_behind_items(items_of(s)), s)
 }

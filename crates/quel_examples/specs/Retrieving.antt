@@ -30,7 +30,7 @@ pub record Retrieving (reading : Reading) : Type 0 where
   pub a_class_is_left : printed reading (empty (codes "ann")) ((codes "ann", lines (codes "retrieve (x = 1) where \"dx\" = \"[a-c]x\"" ∷ codes "\\g" ∷ [])) ∷ [])
       ≡ lines (codes "|x                   |" ∷ codes "|--------------------|" ∷ codes "|--------------------|" ∷ []) ∷ []
   -- a variable without rows leaves no assignment, whatever the qualification says of another
-  pub parts_are_judged_together : printed reading (empty (codes "ann")) ((codes "ann", lines (codes "create n (a = i4) create m (b = i4)" ∷ codes "append to n (a = 0) append to n (a = 2)" ∷ codes "range of e is n range of f is m" ∷ codes "retrieve (e.a) where 10 / e.a = 5" ∷ codes "retrieve (x = 10 / e.a)" ∷ codes "retrieve (e.a) where f.b = 1 or e.a = 2" ∷ codes "\\g" ∷ [])) ∷ [])
+  pub parts_are_checked_together : printed reading (empty (codes "ann")) ((codes "ann", lines (codes "create n (a = i4) create m (b = i4)" ∷ codes "append to n (a = 0) append to n (a = 2)" ∷ codes "range of e is n range of f is m" ∷ codes "retrieve (e.a) where 10 / e.a = 5" ∷ codes "retrieve (x = 10 / e.a)" ∷ codes "retrieve (e.a) where f.b = 1 or e.a = 2" ∷ codes "\\g" ∷ [])) ∷ [])
       ≡ lines (codes "done" ∷ codes "done" ∷ codes "done" ∷ codes "done" ∷ codes "|a          |" ∷ codes "|-----------|" ∷ codes "|          2|" ∷ codes "|-----------|" ∷ codes "refused 20 line 5: no value" ∷ codes "|a          |" ∷ codes "|-----------|" ∷ codes "|-----------|" ∷ []) ∷ []
   -- rows stand in the order of named columns; a name that is no title is refused
   pub sorted : printed reading (empty (codes "ann")) ((codes "ann", lines (codes "create p (a = i2, t = c3)" ∷ codes "append to p (a = 1, t = \"b\") append to p (a = 2, t = \"a\") append to p (a = 3, t = \"b\")" ∷ codes "range of x is p" ∷ codes "retrieve (x.a, x.t) sort by t:d, a:d" ∷ codes "retrieve (x.t) where x.t = \"?\" and x.a != 2" ∷ codes "retrieve (x.t) where x.t = 1" ∷ codes "retrieve (x.a) sort by z" ∷ codes "\\g" ∷ [])) ∷ [])

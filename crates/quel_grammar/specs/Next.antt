@@ -60,8 +60,8 @@ abbrev pub IsGrammatical : Reading → Type 0
 IsGrammatical reading = (text : List ℕ) (from : ℕ) → IsNext text from (reading text from)
 
 -- the place of the first token at or behind a place; where there is none, that of the bad piece, or the place itself
-unfoldable pub first_place : List ℕ → ℕ → ℕ
-first_place text at = begin_or (bad_or at (pieces_from text at).bad) (slice_get (pieces_from text at).placed 0)
+unfoldable pub first_offset : List ℕ → ℕ → ℕ
+first_offset text at = begin_or (bad_or at (pieces_from text at).bad) (slice_get (pieces_from text at).placed 0)
 
 -- the line of a place: 1 and as many as there are newlines before it, at most 4,294,967,295
 unfoldable pub line_at : List ℕ → ℕ → ℕ

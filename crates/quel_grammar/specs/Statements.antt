@@ -107,7 +107,7 @@ pub data IsNumbers : List Token → List ℕ → Type 0 where
   all_numbers : IsNumbers (one fixed.All) []
   listed : {ts : List Token} {ns : List ℕ} → IsList IsNumber ts ns → IsNumbers ts ns
 
--- ["on" names], names = NAME {"," NAME}; that there are at most 6 of them is a bound, which is judged apart
+-- ["on" names], names = NAME {"," NAME}; that there are at most 6 of them is a bound, which is checked apart
 pub data IsOn : List Token → List (List ℕ) → Type 0 where
   without_keys : IsOn [] []
   on_keys : {ts : List Token} {keys : List (List ℕ)} → IsList IsName ts keys → IsOn (one fixed.On ⋅ ts) keys

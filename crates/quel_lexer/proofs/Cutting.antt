@@ -115,17 +115,17 @@ pub behind_fits : (text : List ℕ) (from : ℕ) → from ≤ 2 ^ 64 - 1 → len
 behind_fits text from le fits = omega (arith, length-drop from text)
 
 -- the place of the first token, or of what begins none
-abbrev pub place_or : ℕ → Stop → Option ℕ → ℕ
-place_or at stop (Some begin) = begin
-place_or at stop None = stop_or at stop
+abbrev pub offset_or : ℕ → Stop → Option ℕ → ℕ
+offset_or at stop (Some begin) = begin
+offset_or at stop None = stop_or at stop
 
-place_of : (all : Pieces) (at : ℕ) (stop : Stop) (front later : List Placed) → all.placed ≡ front ++ later → IsStop later all stop → (stop ≡ stops.More → length front ≡ 1)
-    → place_or at stop (first_begin (map span_of front)) ≡ begin_or (bad_or at all.bad) (slice_get all.placed 0)
-place_of all at stop (p ∷ front) later e is_stop full = rw e refl
-place_of all at stops.More [] later e is_stop full = absurd (omega (arith, full refl))
-place_of all at stops.End [] later e is_stop full = rw (e, is_stop.0, is_stop.1) refl
-place_of all at (stops.Bad bad) [] later e is_stop full = rw (e, is_stop.0, is_stop.1) refl
+offset_of : (all : Pieces) (at : ℕ) (stop : Stop) (front later : List Placed) → all.placed ≡ front ++ later → IsStop later all stop → (stop ≡ stops.More → length front ≡ 1)
+    → offset_or at stop (first_begin (map span_of front)) ≡ begin_or (bad_or at all.bad) (slice_get all.placed 0)
+offset_of all at stop (p ∷ front) later e is_stop full = rw e refl
+offset_of all at stops.More [] later e is_stop full = absurd (omega (arith, full refl))
+offset_of all at stops.End [] later e is_stop full = rw (e, is_stop.0, is_stop.1) refl
+offset_of all at (stops.Bad bad) [] later e is_stop full = rw (e, is_stop.0, is_stop.1) refl
 
-pub place : (all : Pieces) (lexed : Lexed) (at : ℕ) → IsFront all lexed → (lexed.stop ≡ stops.More → length lexed.tokens.items ≡ 1)
-    → place_or at lexed.stop (first_begin lexed.spans.items) ≡ begin_or (bad_or at all.bad) (slice_get all.placed 0)
-place all lexed at front full = rw front.spans (place_of all at lexed.stop front.front front.later front.same front.stopped (λ e. sym (length-map front.front _) ∙ ap length (sym front.tokens) ∙ full e))
+pub offset : (all : Pieces) (lexed : Lexed) (at : ℕ) → IsFront all lexed → (lexed.stop ≡ stops.More → length lexed.tokens.items ≡ 1)
+    → offset_or at lexed.stop (first_begin lexed.spans.items) ≡ begin_or (bad_or at all.bad) (slice_get all.placed 0)
+offset all lexed at front full = rw front.spans (offset_of all at lexed.stop front.front front.later front.same front.stopped (λ e. sym (length-map front.front _) ∙ ap length (sym front.tokens) ∙ full e))

@@ -1,7 +1,7 @@
 //! The first tokens of a text from a place on, with their places.
 
 ghost use Rattle.std.specs.Prelude.{◌≡◌, ◌≤◌, ◌++◌, ◌∷◌, [], false, length, drop, IfOk, OnOk};
-ghost use Rattle.quel_grammar.specs.Next.{first_place};
+ghost use Rattle.quel_grammar.specs.Next.{first_offset};
 ghost use Rattle.quel_grammar.specs.Pieces.{pieces_from};
 ghost use Rattle.quel_lexer.specs.declared.lexed.Stop.TheVariants.{More};
 ghost use Rattle.quel_lexer.specs.Lexed.{IsFront, is_verb, first_begin, stop_or};
@@ -177,8 +177,8 @@ fn bad_or(at: usize, stop: Stop) -> usize
 
 /// The place of the first token at or behind a place; where there is none, that of what begins no
 /// token, or the place itself.
-pub fn first_place(alloc: Global, text: &[u8], at: usize) -> Result<usize, OutOfMemory>
-    ensures { IfOk result (λ place. place ≡ first_place text.now at) }
+pub fn first_offset(alloc: Global, text: &[u8], at: usize) -> Result<usize, OutOfMemory>
+    ensures { IfOk result (λ offset. offset ≡ first_offset text.now at) }
 {
     let lexed = lex_front(alloc, text, at, 1, false)?;
     match first_begin(&lexed.spans) {

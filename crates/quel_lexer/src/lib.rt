@@ -8,6 +8,6 @@ mod piece;
 mod words;
 
 pub use front::number_of;
-pub use lexed::{Lexed, Span, Stop, first_place, lex_front};
+pub use lexed::{Lexed, Span, Stop, first_offset, lex_front};
 pub use lines::line_at;
 pub use piece::piece_at;

@@ -3,7 +3,7 @@ use Rattle.std.proofs.Common.{◌≡◌, refl, sym, ap, ◌∙◌, subst, ℕ, n
 use Rattle.std.proofs.lemmas.List.{length-map}
 use Rattle.std.proofs.lemmas.Bool.{eq-eqb}
 use Rattle.calculus.specs.Lists.{has_number}
-use Rattle.calculus.specs.Replacement.{first_cause}
+use Rattle.calculus.specs.Replacement.{first_refusal}
 use Rattle.calculus.specs.declared.request.Checked.{Checked}
 use Rattle.calculus.specs.declared.statement.Statement.{Statement}
 use Rattle.calculus.specs.declared.statement.Statement.TheVariants as statement
@@ -14,19 +14,19 @@ use Rattle.calculus.specs.declared.query.RelKey.{RelKey}
 use Rattle.calculus.specs.declared.schema.RelInfo.{RelInfo}
 use Rattle.calculus.specs.Stored.{info_at}
 use Rattle.quel_meaning.specs.Naming.{Mention, Variable, AttrOf, Relation, AttrIn, Entry, refusal_in, attr_refusal, variable_refusal, no_refusal, name_refusal, first_number, mention_refusal, mentions}
-use Rattle.quel_meaning.specs.Causes.{Causes, causes}
+use Rattle.quel_meaning.specs.Causes.{Causes, refusals}
 use Rattle.quel_meaning.specs.Resolved.{whole, tree_of, resolved}
-use Rattle.quel_meaning.specs.Purpose.{Prints, purpose_of, purpose, cause_numbers}
+use Rattle.quel_meaning.specs.Purpose.{Prints, purpose_of, purpose, refusal_numbers}
 use Rattle.quel_meaning.specs.StatementUpdate.{append_of, replace_of, delete_of, into_of}
 
 -- the tree, or the number of a name, else of a cause
-judged : Option ℕ → Option ℕ → Checked → Result Checked ℕ
-judged names more tree = elim names [ Some n ↦ Err n | None ↦ elim more [ Some n ↦ Err n | None ↦ Ok tree ] ]
+checked_tree : Option ℕ → Option ℕ → Checked → Result Checked ℕ
+checked_tree names more tree = elim names [ Some n ↦ Err n | None ↦ elim more [ Some n ↦ Err n | None ↦ Ok tree ] ]
 
 -- nothing refuses a statement, and this is its tree
 pub record IsAccepted (s : Scope) (stmt : Statement) (tree : Checked) : Type 0 where
   pub names : name_refusal s stmt ≡ None
-  pub none : first_cause (causes s stmt) ≡ None
+  pub none : first_refusal (refusals s stmt) ≡ None
   pub is : tree_of s stmt ≡ tree
 
 abbrev pub scope : Db → List ℕ → Ranges → Scope
@@ -34,11 +34,11 @@ scope db user ranges = record { db = db; user = user; ranges = ranges }
 
 pub accepted : (db : Db) (user : List ℕ) (ranges : Ranges) (stmt : Statement) (tree : Checked) → resolved db user ranges stmt ≡ Ok tree
     → IsAccepted (scope db user ranges) stmt tree
-unfolding resolved judged
-accepted db user ranges stmt tree e = go (name_refusal (scope db user ranges) stmt) (first_cause (causes (scope db user ranges) stmt)) refl refl e
+unfolding resolved checked_tree
+accepted db user ranges stmt tree e = go (name_refusal (scope db user ranges) stmt) (first_refusal (refusals (scope db user ranges) stmt)) refl refl e
   where
-    go : (names more : Option ℕ) → name_refusal (scope db user ranges) stmt ≡ names → first_cause (causes (scope db user ranges) stmt) ≡ more
-        → judged names more (tree_of (scope db user ranges) stmt) ≡ Ok tree → IsAccepted (scope db user ranges) stmt tree
+    go : (names more : Option ℕ) → name_refusal (scope db user ranges) stmt ≡ names → first_refusal (refusals (scope db user ranges) stmt) ≡ more
+        → checked_tree names more (tree_of (scope db user ranges) stmt) ≡ Ok tree → IsAccepted (scope db user ranges) stmt tree
     go (Some n) more h k e = absurd (cc e)
     go None (Some n) h k e = absurd (cc e)
     go None None h k e = record { names = h; none = k; is = cc e }
@@ -70,8 +70,8 @@ resolved_purpose db user ranges stmt tree e = ap purpose_of (sym (accepted db us
 
 -- ---- numbers
 
-pub numbers_are : (s : Scope) (stmt : Statement) → map (λ c. c.0) (causes s stmt) ≡ cause_numbers stmt
-unfolding causes cause_numbers
+pub numbers_are : (s : Scope) (stmt : Statement) → map (λ c. c.0) (refusals s stmt) ≡ refusal_numbers stmt
+unfolding refusals refusal_numbers
 numbers_are s (statement.Range var rel) = refl
 numbers_are s (statement.Retrieve None items qual sort) = refl
 numbers_are s (statement.Retrieve (Some name) items qual sort) = refl
@@ -96,12 +96,12 @@ or_true true c h = refl
 or_true false c h = h
 
 -- the first cause that is there is one of the causes
-cause_listed : (cs : Causes) (n : ℕ) → first_cause cs ≡ Some n → has_number (map (λ c. c.0) cs) n ≡ true
-cause_listed [] n e = absurd (cc e)
-cause_listed (c ∷ cs) n e = go (cause_listed cs n) c.1 e
+refusal_listed : (cs : Causes) (n : ℕ) → first_refusal cs ≡ Some n → has_number (map (λ c. c.0) cs) n ≡ true
+refusal_listed [] n e = absurd (cc e)
+refusal_listed (c ∷ cs) n e = go (refusal_listed cs n) c.1 e
   where
-    go : (first_cause cs ≡ Some n → has_number (map (λ c. c.0) cs) n ≡ true) → (b : Bool)
-        → ◌≡◌ {A = Option ℕ} (elim b [ true ↦ Some c.0 | false ↦ first_cause cs ]) (Some n) → (nat_eq c.0 n || has_number (map (λ c. c.0) cs) n) ≡ true
+    go : (first_refusal cs ≡ Some n → has_number (map (λ c. c.0) cs) n ≡ true) → (b : Bool)
+        → ◌≡◌ {A = Option ℕ} (elim b [ true ↦ Some c.0 | false ↦ first_refusal cs ]) (Some n) → (nat_eq c.0 n || has_number (map (λ c. c.0) cs) n) ≡ true
     go later true e = ap (λ b. b || has_number (map (λ c. c.0) cs) n) (eq-eqb c.0 n (cc e))
     go later false e = or_true (nat_eq c.0 n) _ (later e)
 
@@ -171,17 +171,17 @@ in_second [] ns n h = h
 in_second (m ∷ ms) ns n h = or_true (nat_eq m n) _ (in_second ms ns n h)
 
 refused : (names more : Option ℕ) (tree : Checked) (numbers : List ℕ) → IsOfNames names → ((n : ℕ) → more ≡ Some n → has_number numbers n ≡ true)
-    → (n : ℕ) → judged names more tree ≡ Err n → has_number (of_names ++ numbers) n ≡ true
-unfolding judged IsOfNames
+    → (n : ℕ) → checked_tree names more tree ≡ Err n → has_number (of_names ++ numbers) n ≡ true
+unfolding checked_tree IsOfNames
 refused (Some k) more tree numbers h g n e = in_both of_names numbers n (h n (cc e))
 refused None (Some k) tree numbers h g n e = in_second of_names numbers n (g n (cc e))
 refused None None tree numbers h g n e = absurd (cc e)
 
 pub refused_by : (db : Db) (user : List ℕ) (ranges : Ranges) (stmt : Statement) (n : ℕ) → resolved db user ranges stmt ≡ Err n
-    → has_number (of_names ++ cause_numbers stmt) n ≡ true
-unfolding resolved judged name_refusal
+    → has_number (of_names ++ refusal_numbers stmt) n ≡ true
+unfolding resolved checked_tree name_refusal
 refused_by db user ranges stmt n e =
-    refused (name_refusal (scope db user ranges) stmt) (first_cause (causes (scope db user ranges) stmt)) (tree_of (scope db user ranges) stmt) (cause_numbers stmt)
+    refused (name_refusal (scope db user ranges) stmt) (first_refusal (refusals (scope db user ranges) stmt)) (tree_of (scope db user ranges) stmt) (refusal_numbers stmt)
     (of_mentions (scope db user ranges) (mentions (scope db user ranges) stmt))
-    (λ k f. subst (λ ns. has_number ns k ≡ true) (numbers_are (scope db user ranges) stmt) (cause_listed _ k f))
+    (λ k f. subst (λ ns. has_number ns k ≡ true) (numbers_are (scope db user ranges) stmt) (refusal_listed _ k f))
     n e

@@ -1,4 +1,4 @@
--- What stands in a database has few variables once the views in it are put in.
+-- What stands in a database has few variables once the views in it are expanded.
 use Rattle.std.proofs.Common.{◌≡◌, refl, sym, ap, ap₂, ◌∙◌, subst, ℕ, zero, suc, ◌+◌, ◌≤◌, nat_le, true, List, [], ◌∷◌, map, Option, Some, None, is_some, arith}
 use Rattle.std.specs.List.{sum_by, enumerate_from}
 use Rattle.std.specs.Option.{option_map}

@@ -21,16 +21,16 @@ use Rattle.calculus.specs.Lists.{is_any, differ_by}
 use Rattle.calculus.specs.Name.{is_name}
 use Rattle.calculus.specs.Change.{permit_numbers, rule_numbers}
 use Rattle.calculus.specs.QueryParts.{vars_of}
-use Rattle.calculus.specs.Replacement.{first_cause}
+use Rattle.calculus.specs.Replacement.{first_refusal}
 use Rattle.calculus.specs.Stored.{attrs_in, attrs_at, kinds_at}
 use Rattle.quel_meaning.specs.Columns.{is_copy_form}
 use Rattle.quel_meaning.specs.Planned.{is_past_limit}
 use Rattle.quel_meaning.specs.Scope.{Scope, named, ranged, key_found, place_found}
 use Rattle.quel_meaning.specs.Naming.{AttrIn, AttrOf, mentions, no_refusal, name_refusal}
-use Rattle.quel_meaning.specs.Aggregates.{aggregates_stand}
+use Rattle.quel_meaning.specs.Aggregates.{aggregates_allowed}
 use Rattle.quel_meaning.specs.WrittenQuery.{query_of}
 use Rattle.quel_meaning.specs.Passing.{is_full, is_too_wide, is_taken}
-use Rattle.quel_meaning.specs.Causes.{repeats, is_binary, is_binary_text, row_causes, causes}
+use Rattle.quel_meaning.specs.Causes.{repeats, is_binary, is_binary_text, row_refusals, refusals}
 use Rattle.quel_meaning.specs.Resolved.{stored_attr, copy_col, tree_of}
 use Rattle.quel_meaning.specs.FitQueries.{kept_or_viewed}
 use Rattle.quel_meaning.specs.Fit.{utility_fits, suits}
@@ -70,9 +70,9 @@ forms_stand o [] h = refl
 forms_stand o (c ∷ columns) h = and _ _ (left (is_copy_form c.1) _ h) (forms_stand o columns (right (is_copy_form c.1) _ h))
 
 pub copy_fits : (s : Scope) (rel : List ℕ) (columns : List (List ℕ × CopyForm)) (from : Bool) (file : List ℕ) → is_written (statement.Copy rel columns from file) ≡ true
-    → name_refusal s (statement.Copy rel columns from file) ≡ None → first_cause (causes s (statement.Copy rel columns from file)) ≡ None
+    → name_refusal s (statement.Copy rel columns from file) ≡ None → first_refusal (refusals s (statement.Copy rel columns from file)) ≡ None
     → suits (kept_or_viewed s.db) s.db s.user (tree_of s (statement.Copy rel columns from file)) ≡ true
-unfolding causes tree_of suits utility_fits mentions is_written
+unfolding refusals tree_of suits utility_fits mentions is_written
 copy_fits s rel columns from file w h k =
     let found = names_found s (statement.Copy rel columns from file) h in
     let r = by_name s rel found.0 in
@@ -93,15 +93,15 @@ copy_fits s rel columns from file w h k =
 -- ---- permits and rules
 
 pub permit_fits : (s : Scope) (ops : ℕ) (var : List ℕ) (attrs : List (List ℕ)) (user : Option (List ℕ)) (qual : Qual)
-    → name_refusal s (statement.Permit ops var attrs user qual) ≡ None → first_cause (causes s (statement.Permit ops var attrs user qual)) ≡ None
+    → name_refusal s (statement.Permit ops var attrs user qual) ≡ None → first_refusal (refusals s (statement.Permit ops var attrs user qual)) ≡ None
     → suits (kept_or_viewed s.db) s.db s.user (tree_of s (statement.Permit ops var attrs user qual)) ≡ true
-unfolding causes tree_of suits utility_fits mentions aggregates_stand
+unfolding refusals tree_of suits utility_fits mentions aggregates_allowed
 permit_fits s ops var attrs user qual h k =
     let stmt : Statement = statement.Permit ops var attrs user qual in
     let found = names_found s stmt h in
     let r = (ranged_with s no_refusal var found.0).is in
     let full = is_past_limit most_permits (permit_numbers s.db (key_found (ranged s var))) in
-    let none = none_of (row_causes s (aggregates_stand s stmt) (ranged s var) (full || nat_lt most_listed_attributes (length attrs)) (query_of s stmt)) k in
+    let none = none_of (row_refusals s (aggregates_allowed s stmt) (ranged s var) (full || nat_lt most_listed_attributes (length attrs)) (query_of s stmt)) k in
     let there : Each (HasAttr r.info) attrs = each_to _ _ (λ a e. titled_of s var r a (e, tt)) attrs (of_map _ (AttrOf var) attrs (front_of _ (map (AttrOf var) attrs) _ found.1)) in
     let room = not_right (nat_lt 1 (length (vars_of (query_of s stmt)))) _ none.1.0 in
     let short = not_right full (nat_lt most_listed_attributes (length attrs)) (not_left _ _ room) in
@@ -112,14 +112,14 @@ permit_fits s ops var attrs user qual h k =
     (subst (λ o. list_all (λ a. nat_lt a (length (attrs_in o))) (map (place_found (Some r.info)) attrs) ≡ true) (sym (ranged_again s var r)) (places_in_range r.info attrs there)))
     (le-leb _ _ (omega (arith, ltb-false most_listed_attributes (length attrs) short, length-map attrs (place_found (ranged s var))))))
 
-pub rule_fits : (s : Scope) (var : List ℕ) (qual : Qual) → name_refusal s (statement.Rule var qual) ≡ None → first_cause (causes s (statement.Rule var qual)) ≡ None
+pub rule_fits : (s : Scope) (var : List ℕ) (qual : Qual) → name_refusal s (statement.Rule var qual) ≡ None → first_refusal (refusals s (statement.Rule var qual)) ≡ None
     → suits (kept_or_viewed s.db) s.db s.user (tree_of s (statement.Rule var qual)) ≡ true
-unfolding causes tree_of suits utility_fits mentions aggregates_stand
+unfolding refusals tree_of suits utility_fits mentions aggregates_allowed
 rule_fits s var qual h k =
     let stmt : Statement = statement.Rule var qual in
     let r = (ranged_with s no_refusal var (names_found s stmt h).0).is in
     let full = is_past_limit most_rules (rule_numbers s.db (key_found (ranged s var))) in
-    let none = none_of (row_causes s (aggregates_stand s stmt) (ranged s var) full (query_of s stmt)) k in
+    let none = none_of (row_refusals s (aggregates_allowed s stmt) (ranged s var) full (query_of s stmt)) k in
     let room = not_right (nat_lt 1 (length (vars_of (query_of s stmt)))) _ none.1.0 in
     and _ _ (ranged_named s var r) (and _ _ (not_not _ none.1.1.0) (not_not _ (not_right full _ room)))
 
@@ -151,9 +151,9 @@ made_stand {X} attr xs any named differ kinds narrow =
     names (x ∷ xs) = ap (λ ns. (attr x).name ∷ ns) (names xs)
 
 pub create_fits : (s : Scope) (rel : List ℕ) (attrs : List (List ℕ × Domain)) → is_written (statement.Create rel attrs) ≡ true
-    → first_cause (causes s (statement.Create rel attrs)) ≡ None
+    → first_refusal (refusals s (statement.Create rel attrs)) ≡ None
     → suits (kept_or_viewed s.db) s.db s.user (tree_of s (statement.Create rel attrs)) ≡ true
-unfolding causes tree_of suits utility_fits is_written
+unfolding refusals tree_of suits utility_fits is_written
 create_fits s rel attrs w k =
     let none = none_of ((14, is_full s.db) ∷ (17, repeats (map (λ (a : List ℕ × Domain). a.0) attrs)) ∷ (16, is_too_wide (map (λ (a : List ℕ × Domain). Of a.1) attrs)) ∷ (15, is_taken s.db s.user rel) ∷ []) k in
     let listed = right (is_name rel) _ w in

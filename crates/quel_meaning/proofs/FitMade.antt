@@ -17,23 +17,23 @@ use Rattle.calculus.specs.declared.value.Domain.TheVariants.{I1, I2, I4, C}
 use Rattle.calculus.specs.declared.value.Kind.{Kind}
 use Rattle.calculus.specs.declared.value.Kind.TheVariants.{Of, Wide}
 use Rattle.calculus.specs.Database.{Db}
-use Rattle.calculus.specs.IsDatabase.{IsDatabase, attrs_stand, are_stored, is_kind, is_stored_kind, has_kind, var_kinds, query_stands}
+use Rattle.calculus.specs.IsDatabase.{IsDatabase, attrs_stand, are_stored, is_kind, is_stored_kind, has_kind, var_kinds, valid_query}
 use Rattle.calculus.specs.Kinds.{comparable, kinds_fit, kind_of}
 use Rattle.calculus.specs.Lists.{is_any, differ_by}
 use Rattle.calculus.specs.Name.{is_name}
 use Rattle.calculus.specs.QueryParts.{vars_of, targets_of, qual_of, term_aggregates, qual_aggregates, query_aggregates}
-use Rattle.calculus.specs.Replacement.{first_cause, made_attr}
+use Rattle.calculus.specs.Replacement.{first_refusal, made_attr}
 use Rattle.calculus.specs.Stored.{Range, range_at, range_info, info_at}
 use Rattle.quel_meaning.specs.Planned.{target_attr}
 use Rattle.quel_meaning.specs.Scope.{Scope}
 use Rattle.quel_meaning.specs.Naming.{mentions, new_title, name_refusal}
 use Rattle.quel_meaning.specs.WrittenParts.{text_aggregates}
-use Rattle.quel_meaning.specs.Aggregates.{aggregates_stand}
+use Rattle.quel_meaning.specs.Aggregates.{aggregates_allowed}
 use Rattle.quel_meaning.specs.WrittenQuery.{query_of}
 use Rattle.quel_meaning.specs.KindsInQueries.{kind_in_query, query_fits, assignments_fit}
 use Rattle.quel_meaning.specs.Passing.{has_too_many, is_full, is_too_large}
 use Rattle.quel_meaning.specs.StatementUpdate.{into_of}
-use Rattle.quel_meaning.specs.Causes.{into_causes, view_causes, causes}
+use Rattle.quel_meaning.specs.Causes.{into_refusals, view_refusals, refusals}
 use Rattle.quel_meaning.specs.Resolved.{tree_of}
 use Rattle.quel_meaning.specs.FitQueries.{kept_or_viewed, can_be_ranged_over}
 use Rattle.quel_meaning.specs.Fit.{view_fits, update_fits, utility_fits, suits}
@@ -105,9 +105,9 @@ places_counted ts =
 
 pub into_fits : (s : Scope) → IsDatabase s.db → (name : List ℕ) (items : List Item) (qual : Qual) (sort : List (List ℕ × Bool))
     → is_written (statement.Retrieve (Some name) items qual sort) ≡ true
-    → name_refusal s (statement.Retrieve (Some name) items qual sort) ≡ None → first_cause (causes s (statement.Retrieve (Some name) items qual sort)) ≡ None
+    → name_refusal s (statement.Retrieve (Some name) items qual sort) ≡ None → first_refusal (refusals s (statement.Retrieve (Some name) items qual sort)) ≡ None
     → suits (kept_or_viewed s.db) s.db s.user (tree_of s (statement.Retrieve (Some name) items qual sort)) ≡ true
-unfolding causes tree_of suits update_fits aggregates_stand mentions into_of assignments_fit kinds_fit is_written
+unfolding refusals tree_of suits update_fits aggregates_allowed mentions into_of assignments_fit kinds_fit is_written
 into_fits s is name items qual sort w h k =
     and _ _ (reads s stmt h (not_not _ none.0) few (narrow_targets q (λ t. (made_attr t).kind) none.1.1.1.1.1.0))
     (and _ _ (fitting_kinds s.db q (each_to _ _ (λ (t : Target) g. g.1) (targets_of q) good) (not_not _ none.1.1.1.0))
@@ -125,8 +125,8 @@ into_fits s is name items qual sort w h k =
     items_written : items_are_written items ≡ true
     items_written = left _ _ (right (is_name name) _ w)
 
-    none : Each (λ c. c.1 ≡ false) (into_causes s (aggregates_stand s stmt) name sort q)
-    none = none_of (into_causes s (aggregates_stand s stmt) name sort q) k
+    none : Each (λ c. c.1 ≡ false) (into_refusals s (aggregates_allowed s stmt) name sort q)
+    none = none_of (into_refusals s (aggregates_allowed s stmt) name sort q) k
 
     few : has_too_many s.db q ≡ false
     few = not_left _ _ none.1.0
@@ -175,7 +175,7 @@ pub both_hold : {X : Type 0} (P Q R : X → Type 0) → ((x : X) → P x → Q x
 both_hold P Q R f [] h k = tt
 both_hold P Q R f (x ∷ xs) h k = (f x h.0 k.0, both_hold P Q R f xs h.1 k.1)
 
-query_alone : (db : Db) (q : Query) → query_aggregates q ≡ [] → query_fits db q ≡ true → query_stands db q ≡ true
+query_alone : (db : Db) (q : Query) → query_aggregates q ≡ [] → query_fits db q ≡ true → valid_query db q ≡ true
 unfolding query_fits
 query_alone db q none h =
     and _ _
@@ -186,9 +186,9 @@ query_alone db q none h =
     (subst (λ b. b ≡ true) (same_fit db (qual_of q) (var_kinds db q) (none_behind (flat_map (λ (t : Target). term_aggregates t.term) (targets_of q)) _ none)) (right _ _ h))
 
 pub view_stmt_fits : (s : Scope) → IsDatabase s.db → (name : List ℕ) (items : List Item) (qual : Qual) → is_written (statement.View name items qual) ≡ true
-    → name_refusal s (statement.View name items qual) ≡ None → first_cause (causes s (statement.View name items qual)) ≡ None
+    → name_refusal s (statement.View name items qual) ≡ None → first_refusal (refusals s (statement.View name items qual)) ≡ None
     → suits (kept_or_viewed s.db) s.db s.user (tree_of s (statement.View name items qual)) ≡ true
-unfolding causes tree_of suits utility_fits view_fits aggregates_stand mentions is_written
+unfolding refusals tree_of suits utility_fits view_fits aggregates_allowed mentions is_written
 view_stmt_fits s is name items qual w h k =
     and _ _ (and _ _ (not_so _ none.1.1.1.1.1.0) (not_so _ (not_left _ _ room)))
     (and _ _ (passed (λ key. is_some (range_at s.db key)) _ (each_to _ _ (λ key e. range_there s.db key e) (vars_of q) (each_passes (can_be_ranged_over s.db) (vars_of q) (vars_named s stmt h))))
@@ -205,8 +205,8 @@ view_stmt_fits s is name items qual w h k =
     items_written : items_are_written items ≡ true
     items_written = left _ _ (right (is_name name) _ w)
 
-    none : Each (λ c. c.1 ≡ false) (view_causes s (aggregates_stand s stmt) name q)
-    none = none_of (view_causes s (aggregates_stand s stmt) name q) k
+    none : Each (λ c. c.1 ≡ false) (view_refusals s (aggregates_allowed s stmt) name q)
+    none = none_of (view_refusals s (aggregates_allowed s stmt) name q) k
 
     few : has_too_many s.db q ≡ false
     few = not_left _ _ none.1.0

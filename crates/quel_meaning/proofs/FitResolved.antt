@@ -1,4 +1,4 @@
--- What a written statement asks for is fit, once the views in it are put in.
+-- What a written statement asks for is fit, once the views in it are expanded.
 use Rattle.std.proofs.Common.{◌≡◌, refl, subst, ℕ, true, List, Some, None, Ok}
 use Rattle.calculus.specs.declared.request.Checked.{Checked}
 use Rattle.calculus.specs.declared.statement.Statement.{Statement}
@@ -6,11 +6,11 @@ use Rattle.calculus.specs.declared.statement.Statement.TheVariants as statement
 use Rattle.calculus.specs.Database.{Db}
 use Rattle.calculus.specs.IsDatabase.{IsDatabase}
 use Rattle.calculus.specs.Name.{is_name}
-use Rattle.calculus.specs.Replacement.{first_cause}
+use Rattle.calculus.specs.Replacement.{first_refusal}
 use Rattle.quel_meaning.specs.Ranges.{Ranges}
 use Rattle.quel_meaning.specs.Scope.{Scope, named}
 use Rattle.quel_meaning.specs.Naming.{name_refusal}
-use Rattle.quel_meaning.specs.Causes.{causes}
+use Rattle.quel_meaning.specs.Causes.{refusals}
 use Rattle.quel_meaning.specs.Resolved.{tree_of, resolved}
 use Rattle.quel_meaning.specs.FitQueries.{kept_or_viewed}
 use Rattle.quel_meaning.specs.Fit.{suits, fits, is_fit_with_views}
@@ -25,7 +25,7 @@ use Rattle.quel_meaning.proofs.FitUpdates.{append_fits, replace_fits, delete_fit
 use Rattle.quel_meaning.proofs.FitUtilities.{destroy_fits, drop_permits_fits, drop_rules_fits, modify_fits, index_fits}
 use Rattle.quel_meaning.proofs.SpelledResolved.{tree_spelled}
 
-tree_suits : (s : Scope) → IsDatabase s.db → (stmt : Statement) → is_written stmt ≡ true → name_refusal s stmt ≡ None → first_cause (causes s stmt) ≡ None
+tree_suits : (s : Scope) → IsDatabase s.db → (stmt : Statement) → is_written stmt ≡ true → name_refusal s stmt ≡ None → first_refusal (refusals s stmt) ≡ None
     → suits (kept_or_viewed s.db) s.db s.user (tree_of s stmt) ≡ true
 unfolding tree_of suits is_written
 tree_suits s is (statement.Range var rel) w h k = refl
@@ -49,7 +49,7 @@ tree_suits s is (statement.Permit ops var attrs user qual) w h k = permit_fits s
 tree_suits s is (statement.Rule var qual) w h k = rule_fits s var qual h k
 
 tree_fits : (s : Scope) → IsDatabase s.db → is_name s.user ≡ true → (stmt : Statement) → is_written stmt ≡ true → name_refusal s stmt ≡ None
-    → first_cause (causes s stmt) ≡ None → is_fit_with_views s.db s.user (tree_of s stmt) ≡ true
+    → first_refusal (refusals s stmt) ≡ None → is_fit_with_views s.db s.user (tree_of s stmt) ≡ true
 unfolding fits
 tree_fits s is u stmt w h k = and _ _ (tree_spelled s is u stmt w h) (tree_suits s is stmt w h k)
 

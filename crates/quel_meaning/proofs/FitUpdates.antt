@@ -21,18 +21,18 @@ use Rattle.calculus.specs.IsDatabase.{IsDatabase, is_kind, has_kind, same_kind, 
 use Rattle.calculus.specs.Kinds.{comparable, kinds_fit}
 use Rattle.calculus.specs.Lists.{differ_by}
 use Rattle.calculus.specs.QueryParts.{vars_of, targets_of}
-use Rattle.calculus.specs.Replacement.{first_cause}
+use Rattle.calculus.specs.Replacement.{first_refusal}
 use Rattle.calculus.specs.Stored.{info_at, attrs_in, attrs_at}
 use Rattle.quel_meaning.specs.IsWritten.{items_are_written}
 use Rattle.quel_meaning.specs.Scope.{Scope, ranged, key_found, place_found}
 use Rattle.quel_meaning.specs.Naming.{AttrIn, AttrOf, mentions, no_refusal, name_refusal}
 use Rattle.quel_meaning.specs.WrittenParts.{vars_in}
-use Rattle.quel_meaning.specs.Aggregates.{aggregates_stand}
+use Rattle.quel_meaning.specs.Aggregates.{aggregates_allowed}
 use Rattle.quel_meaning.specs.WrittenQuery.{query_of}
 use Rattle.quel_meaning.specs.KindsInQueries.{kind_in_query, query_fits, assignments_fit}
 use Rattle.quel_meaning.specs.Passing.{has_too_many}
 use Rattle.quel_meaning.specs.StatementUpdate.{titles_of, changing, append_of, replace_of, delete_of}
-use Rattle.quel_meaning.specs.Causes.{repeats, causes, update_causes, delete_causes}
+use Rattle.quel_meaning.specs.Causes.{repeats, refusals, update_refusals, delete_refusals}
 use Rattle.quel_meaning.specs.Resolved.{tree_of}
 use Rattle.quel_meaning.specs.FitQueries.{kept_or_viewed, has_few_targets, reads_fit}
 use Rattle.quel_meaning.specs.Fit.{is_this_key, update_kinds_fit, update_fits, suits}
@@ -134,8 +134,8 @@ delete_ready s info q r h k a old =
 -- ---- the statements
 
 pub append_fits : (s : Scope) → IsDatabase s.db → (rel : List ℕ) (items : List Item) (qual : Qual) → items_are_written items ≡ true → name_refusal s (statement.Append rel items qual) ≡ None
-    → first_cause (causes s (statement.Append rel items qual)) ≡ None → suits (kept_or_viewed s.db) s.db s.user (tree_of s (statement.Append rel items qual)) ≡ true
-unfolding causes tree_of suits aggregates_stand append_of mentions
+    → first_refusal (refusals s (statement.Append rel items qual)) ≡ None → suits (kept_or_viewed s.db) s.db s.user (tree_of s (statement.Append rel items qual)) ≡ true
+unfolding refusals tree_of suits aggregates_allowed append_of mentions
 append_fits s is rel items qual w h k =
     subst (λ o. update_fits (kept_or_viewed s.db) s.db (changing op.Append 255 o q) ≡ true) (sym r.is)
     (append_ready s r.info q ready there (names_differ q none.1.1.0) (subst (λ o. assignments_fit s.db (changing op.Append 255 o q) ≡ true) r.is (right (query_fits s.db q) _ (not_not _ none.1.1.1.0))))
@@ -152,8 +152,8 @@ append_fits s is rel items qual w h k =
     r : IsNamed s rel
     r = named_with s no_refusal rel found.0
 
-    none : Each (λ c. c.1 ≡ false) (update_causes s (aggregates_stand s stmt) (append_of s rel q))
-    none = none_of (update_causes s (aggregates_stand s stmt) (append_of s rel q)) k
+    none : Each (λ c. c.1 ≡ false) (update_refusals s (aggregates_allowed s stmt) (append_of s rel q))
+    none = none_of (update_refusals s (aggregates_allowed s stmt) (append_of s rel q)) k
 
     there : Each (HasAttr r.info) (titles_of q)
     there = titles (HasAttr r.info) s (λ a. AttrIn rel a ∷ []) (titled_in s rel r.info r.is) stmt qual found.1
@@ -180,8 +180,8 @@ unfolding query_of vars_in
 first_deleted s var qual r = keys_same _ _ (ap key_found (ranged_is s var r))
 
 pub replace_fits : (s : Scope) → IsDatabase s.db → (var : List ℕ) (items : List Item) (qual : Qual) → items_are_written items ≡ true → name_refusal s (statement.Replace var items qual) ≡ None
-    → first_cause (causes s (statement.Replace var items qual)) ≡ None → suits (kept_or_viewed s.db) s.db s.user (tree_of s (statement.Replace var items qual)) ≡ true
-unfolding causes tree_of suits aggregates_stand replace_of mentions
+    → first_refusal (refusals s (statement.Replace var items qual)) ≡ None → suits (kept_or_viewed s.db) s.db s.user (tree_of s (statement.Replace var items qual)) ≡ true
+unfolding refusals tree_of suits aggregates_allowed replace_of mentions
 replace_fits s is var items qual w h k =
     subst (λ o. update_fits (kept_or_viewed s.db) s.db (changing op.Replace 0 o q) ≡ true) (sym over)
     (replace_ready s r.info q ready there (names_differ q none.1.1.0)
@@ -203,8 +203,8 @@ replace_fits s is var items qual w h k =
     over : ranged s var ≡ Some r.info
     over = ranged_is s var r
 
-    none : Each (λ c. c.1 ≡ false) (update_causes s (aggregates_stand s stmt) (replace_of s var q))
-    none = none_of (update_causes s (aggregates_stand s stmt) (replace_of s var q)) k
+    none : Each (λ c. c.1 ≡ false) (update_refusals s (aggregates_allowed s stmt) (replace_of s var q))
+    none = none_of (update_refusals s (aggregates_allowed s stmt) (replace_of s var q)) k
 
     there : Each (HasAttr r.info) (titles_of q)
     there = titles (HasAttr r.info) s (λ a. AttrOf var a ∷ []) (titled_of s var r) stmt qual found.1
@@ -223,8 +223,8 @@ replace_fits s is var items qual w h k =
     }
 
 pub delete_fits : (s : Scope) → IsDatabase s.db → (var : List ℕ) (qual : Qual) → name_refusal s (statement.Delete var qual) ≡ None
-    → first_cause (causes s (statement.Delete var qual)) ≡ None → suits (kept_or_viewed s.db) s.db s.user (tree_of s (statement.Delete var qual)) ≡ true
-unfolding causes tree_of suits aggregates_stand delete_of mentions assignments_fit query_of
+    → first_refusal (refusals s (statement.Delete var qual)) ≡ None → suits (kept_or_viewed s.db) s.db s.user (tree_of s (statement.Delete var qual)) ≡ true
+unfolding refusals tree_of suits aggregates_allowed delete_of mentions assignments_fit query_of
 delete_fits s is var qual h k =
     subst (λ o. update_fits (kept_or_viewed s.db) s.db (changing op.Delete 0 o q) ≡ true) (sym over)
     (delete_ready s r.info q ready tt refl refl (first_deleted s var qual r))
@@ -241,8 +241,8 @@ delete_fits s is var qual h k =
     over : ranged s var ≡ Some r.info
     over = ranged_is s var r
 
-    none : Each (λ c. c.1 ≡ false) (delete_causes s (aggregates_stand s stmt) (delete_of s var q))
-    none = none_of (delete_causes s (aggregates_stand s stmt) (delete_of s var q)) k
+    none : Each (λ c. c.1 ≡ false) (delete_refusals s (aggregates_allowed s stmt) (delete_of s var q))
+    none = none_of (delete_refusals s (aggregates_allowed s stmt) (delete_of s var q)) k
 
     ready : Ready s r.info q
     ready = record {

@@ -17,13 +17,13 @@ use Rattle.calculus.specs.Keys.{key_of, same_key}
 use Rattle.calculus.specs.Limits.{most_keys}
 use Rattle.calculus.specs.Lists.{is_any, differ_by}
 use Rattle.calculus.specs.Name.{is_name}
-use Rattle.calculus.specs.Replacement.{first_cause}
+use Rattle.calculus.specs.Replacement.{first_refusal}
 use Rattle.calculus.specs.Stored.{info_at, attrs_in, attrs_at}
 use Rattle.quel_meaning.specs.Structures.{structure_keys, first_or_these}
 use Rattle.quel_meaning.specs.Scope.{Scope, named, entry_named, key_found, place_found}
 use Rattle.quel_meaning.specs.Naming.{Relation, AttrIn, mentions, no_refusal, name_refusal}
 use Rattle.quel_meaning.specs.Passing.{is_full, is_taken}
-use Rattle.quel_meaning.specs.Causes.{repeats, repeats_keys, causes}
+use Rattle.quel_meaning.specs.Causes.{repeats, repeats_keys, refusals}
 use Rattle.quel_meaning.specs.Resolved.{tree_of}
 use Rattle.quel_meaning.specs.FitQueries.{kept_or_viewed, can_be_ranged_over}
 use Rattle.quel_meaning.specs.Fit.{is_entry, utility_fits, suits}
@@ -93,9 +93,9 @@ entries_are s (n ∷ names) = go (entry_named s n) refl (entries_are s names)
     go None e later = later
     go (Some key) e later = (entry_is s n key e, later)
 
-pub destroy_fits : (s : Scope) (rels : List (List ℕ)) → first_cause (causes s (statement.Destroy rels)) ≡ None
+pub destroy_fits : (s : Scope) (rels : List (List ℕ)) → first_refusal (refusals s (statement.Destroy rels)) ≡ None
     → suits (kept_or_viewed s.db) s.db s.user (tree_of s (statement.Destroy rels)) ≡ true
-unfolding causes tree_of suits utility_fits
+unfolding refusals tree_of suits utility_fits
 destroy_fits s rels k =
     let none = none_of ((17, repeats_keys s rels) ∷ []) k in
     and _ _ (passed (is_entry s.db) _ (entries_are s rels)) (not_not _ none.0)
@@ -146,9 +146,9 @@ pub its_attrs : (s : Scope) (rel : List ℕ) (r : IsNamed s rel) → attrs_at s.
 its_attrs s rel r = ap attrs_in (named_again s rel r)
 
 pub modify_fits : (s : Scope) → IsDatabase s.db → (rel : List ℕ) (to : Spec) (keys : List (List ℕ)) → is_written (statement.Modify rel to keys) ≡ true
-    → name_refusal s (statement.Modify rel to keys) ≡ None → first_cause (causes s (statement.Modify rel to keys)) ≡ None
+    → name_refusal s (statement.Modify rel to keys) ≡ None → first_refusal (refusals s (statement.Modify rel to keys)) ≡ None
     → suits (kept_or_viewed s.db) s.db s.user (tree_of s (statement.Modify rel to keys)) ≡ true
-unfolding causes tree_of suits utility_fits mentions is_written
+unfolding refusals tree_of suits utility_fits mentions is_written
 modify_fits s is rel to keys w h k =
     let found = names_found s (statement.Modify rel to keys) h in
     let r = by_name s rel found.0 in
@@ -161,9 +161,9 @@ modify_fits s is rel to keys w h k =
     (structure_fits to r.info keys (left _ _ w) (left _ _ (info_stands s.db is r.key r.info r.there)) stand))))
 
 pub index_fits : (s : Scope) (base name : List ℕ) (keys : List (List ℕ)) → is_written (statement.Index base name keys) ≡ true
-    → name_refusal s (statement.Index base name keys) ≡ None → first_cause (causes s (statement.Index base name keys)) ≡ None
+    → name_refusal s (statement.Index base name keys) ≡ None → first_refusal (refusals s (statement.Index base name keys)) ≡ None
     → suits (kept_or_viewed s.db) s.db s.user (tree_of s (statement.Index base name keys)) ≡ true
-unfolding causes tree_of suits utility_fits mentions is_written
+unfolding refusals tree_of suits utility_fits mentions is_written
 index_fits s base name keys w h k =
     let found = names_found s (statement.Index base name keys) h in
     let r = by_name s base found.0 in

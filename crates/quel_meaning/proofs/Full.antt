@@ -22,10 +22,10 @@ use Rattle.quel_meaning.specs.Ranges.{range_of}
 use Rattle.quel_meaning.specs.Scope.{named, ranged}
 use Rattle.quel_meaning.specs.WrittenParts.{aggregates_in, aggregates_in_qual, vars_in}
 use Rattle.quel_meaning.specs.Naming.{mentions, name_refusal}
-use Rattle.quel_meaning.specs.Aggregates.{aggregates_stand}
+use Rattle.quel_meaning.specs.Aggregates.{aggregates_allowed}
 use Rattle.quel_meaning.specs.WrittenQuery.{where_tree, query_of}
 use Rattle.quel_meaning.specs.Passing.{is_full, is_too_wide, is_taken}
-use Rattle.quel_meaning.specs.Causes.{causes}
+use Rattle.quel_meaning.specs.Causes.{refusals}
 use Rattle.quel_meaning.specs.Resolved.{tree_of, resolved}
 use Rattle.quel_meaning.proofs.SmallTexts.{key, relation, db, ranges}
 
@@ -62,7 +62,7 @@ record Limits : Type 0 where
   no_room_for_a_relation : resolved (with_relations 9999) (codes "ann") ranges creating ≡ Err 14
 
 limits : Limits
-unfolding resolved tree_of name_refusal mentions range_of ranged named found info_at range_at catalogue_at causes aggregates_stand aggregates_in aggregates_in_qual vars_in query_of where_tree kinds_fit is_full is_too_wide is_taken qual_aggregates qual_size measure_of
+unfolding resolved tree_of name_refusal mentions range_of ranged named found info_at range_at catalogue_at refusals aggregates_allowed aggregates_in aggregates_in_qual vars_in query_of where_tree kinds_fit is_full is_too_wide is_taken qual_aggregates qual_size measure_of
 limits = record {
   ninety_nine_permits = refl;
   a_hundred_permits = refl;

@@ -14,7 +14,7 @@ use Rattle.calculus.specs.declared.reply.Reply.TheVariants.{Nothing, Refused}
 use Rattle.calculus.specs.declared.schema.RelInfo.{RelInfo}
 use Rattle.calculus.specs.declared.statement.Statement.{Statement}
 use Rattle.calculus.specs.declared.statement.Statement.TheVariants.{Range}
-use Rattle.calculus.specs.Who.{Who, Asker, Asks}
+use Rattle.calculus.specs.Who.{Who, Asker, AsUser}
 use Rattle.calculus.specs.Database.{Db}
 use Rattle.calculus.specs.Replacement.{updated}
 use Rattle.calculus.specs.Finding.{found}
@@ -23,7 +23,7 @@ use Rattle.fault_io.specs.Files.{Files}
 use Rattle.quel_meaning.specs.State.{State, Outcome}
 use Rattle.quel_meaning.specs.Planned.{planned}
 use Rattle.quel_meaning.specs.Copying.{copied_from, copied_into, file_of_constant}
-use Rattle.quel_meaning.specs.Meaning.{Effect, Resolving, change_effect, numbered_effect, file_effect, copy_effect, utility_effect, tree_meaning, ruled_tree, checked_permitted, is_range, refused_outcome, range_outcome, with_ranges, permitted_tree, judged_tree, judged_by, judged_outcome, meaning_by}
+use Rattle.quel_meaning.specs.Meaning.{Effect, Resolving, change_effect, numbered_effect, file_effect, copy_effect, utility_effect, tree_meaning, ruled_tree, checked_permitted, is_range, refused_outcome, range_outcome, with_ranges, permitted_tree, tree_if_permitted, checked_tree_by, checked_outcome, meaning_by}
 
 -- ---- a refusal changes nothing
 
@@ -67,11 +67,11 @@ same_state : (state : State) (e : Effect) → (e.db ≡ state.db) × (e.shelf �
 same_state state e h =
     ap (λ db. record { db = db; shelf = e.shelf; ranges = state.ranges }) h.0 ∙ ap (λ shelf. record { db = state.db; shelf = shelf; ranges = state.ranges }) h.1
 
-kept_judged : (state : State) (asker : Asker) (tree : Result Checked ℕ) → StateKeptBy state (judged_outcome state asker tree)
-kept_judged state asker (Err number) = λ r h. refl
-kept_judged state asker (Ok tree) = λ r h.
-    same_state state (tree_meaning state.db state.shelf (Asks asker) asker.user (ruled_tree state.db tree))
-    (kept_tree state.db state.shelf (Asks asker) asker.user (ruled_tree state.db tree) r h)
+kept_checked : (state : State) (asker : Asker) (tree : Result Checked ℕ) → StateKeptBy state (checked_outcome state asker tree)
+kept_checked state asker (Err number) = λ r h. refl
+kept_checked state asker (Ok tree) = λ r h.
+    same_state state (tree_meaning state.db state.shelf (AsUser asker) asker.user (ruled_tree state.db tree))
+    (kept_tree state.db state.shelf (AsUser asker) asker.user (ruled_tree state.db tree) r h)
 
 kept_range : (state : State) (var : List ℕ) (info : Option RelInfo) → StateKeptBy state (range_outcome state var info)
 kept_range state var None = λ r h. refl
@@ -81,7 +81,7 @@ kept_range state var (Some info) = λ r h. cc h
 kept_statement : (resolved : Resolving) (state : State) (asker : Asker) (s : Statement) → StateKeptBy state (meaning_by resolved state asker s)
 unfolding meaning_by
 kept_statement resolved state asker (Range var rel) = kept_range state var (found state.db asker.user rel)
-kept_statement resolved state asker s = kept_judged state asker (judged_by resolved state.db asker state.ranges s)
+kept_statement resolved state asker s = kept_checked state asker (checked_tree_by resolved state.db asker state.ranges s)
 
 pub refused_keeps : (resolved : Resolving) (state : State) (asker : Asker) (s : Statement) (r : Refusal)
     → (meaning_by resolved state asker s).reply ≡ Refused r → (meaning_by resolved state asker s).state ≡ state
@@ -107,19 +107,19 @@ range_refused resolved state asker var rel f = range_is resolved state asker var
 
 -- ---- the ranges that other statements leave
 
-kept_ranges_judged : (state : State) (asker : Asker) (tree : Result Checked ℕ) → (judged_outcome state asker tree).state.ranges ≡ state.ranges
-kept_ranges_judged state asker (Err number) = refl
-kept_ranges_judged state asker (Ok tree) = refl
+kept_ranges_checked : (state : State) (asker : Asker) (tree : Result Checked ℕ) → (checked_outcome state asker tree).state.ranges ≡ state.ranges
+kept_ranges_checked state asker (Err number) = refl
+kept_ranges_checked state asker (Ok tree) = refl
 
 pub other_statements_keep_ranges : (resolved : Resolving) (state : State) (asker : Asker) (s : Statement)
     → is_range s ≡ false → (meaning_by resolved state asker s).state.ranges ≡ state.ranges
 unfolding meaning_by
 other_statements_keep_ranges resolved state asker (Range var rel) = λ h. cc h
-other_statements_keep_ranges resolved state asker s = λ h. kept_ranges_judged state asker (judged_by resolved state.db asker state.ranges s)
+other_statements_keep_ranges resolved state asker s = λ h. kept_ranges_checked state asker (checked_tree_by resolved state.db asker state.ranges s)
 
 -- ---- what asks
 
-kept_answer : (state : State) (asker : Asker) (asked : List Asked) (permitted : Bool) → (judged_outcome state asker (permitted_tree permitted (Answer asked))).state ≡ state
+kept_answer : (state : State) (asker : Asker) (asked : List Asked) (permitted : Bool) → (checked_outcome state asker (permitted_tree permitted (Answer asked))).state ≡ state
 unfolding tree_meaning ruled_tree
 kept_answer state asker asked true = refl
 kept_answer state asker asked false = refl
@@ -127,7 +127,7 @@ kept_answer state asker asked false = refl
 -- a statement whose tree asks changes nothing
 pub what_asks_keeps : (resolved : Resolving) (state : State) (asker : Asker) (s : Statement) (asked : List Asked)
     → is_range s ≡ false → resolved state.db asker.user state.ranges s ≡ Ok (Answer asked) → (meaning_by resolved state asker s).state ≡ state
-unfolding meaning_by judged_by
+unfolding meaning_by checked_tree_by
 what_asks_keeps resolved state asker (Range var rel) asked = λ h e. cc h
 what_asks_keeps resolved state asker s asked = λ h e.
-    ap (λ tree. (judged_outcome state asker (judged_tree state.db asker tree)).state) e ∙ kept_answer state asker asked (checked_permitted state.db (Asks asker) (Answer asked))
+    ap (λ tree. (checked_outcome state asker (tree_if_permitted state.db asker tree)).state) e ∙ kept_answer state asker asked (checked_permitted state.db (AsUser asker) (Answer asked))

@@ -56,7 +56,7 @@ pub mod NameChars
 pub mod SpelledTerms
 pub mod SpelledResolved
 pub mod FitResolved
-pub mod Judged
+pub mod CheckedTrees
 pub mod FitViews
 pub mod UsedVars
 pub mod VarPlaces

@@ -13,11 +13,11 @@ use Rattle.calculus.specs.declared.request.SortKey.{SortKey}
 use Rattle.calculus.specs.declared.statement.Statement.{Statement}
 use Rattle.calculus.specs.Limits.{most_attributes}
 use Rattle.calculus.specs.QueryParts.{vars_of, targets_of}
-use Rattle.calculus.specs.Replacement.{first_cause}
+use Rattle.calculus.specs.Replacement.{first_refusal}
 use Rattle.quel_meaning.specs.Scope.{Scope}
 use Rattle.quel_meaning.specs.Naming.{name_refusal}
 use Rattle.quel_meaning.specs.WrittenParts.{text_aggregates, vars_in}
-use Rattle.quel_meaning.specs.Aggregates.{aggregate_stands}
+use Rattle.quel_meaning.specs.Aggregates.{aggregate_allowed}
 use Rattle.quel_meaning.specs.WrittenTree.{key_over}
 use Rattle.quel_meaning.specs.WrittenQuery.{query_of}
 use Rattle.quel_meaning.specs.Passing.{has_too_many, is_too_wide}
@@ -31,11 +31,11 @@ use Rattle.quel_meaning.proofs.Slots.{slots_are}
 use Rattle.quel_meaning.proofs.Few.{listed_few}
 
 -- none of some causes is there
-pub none_of : (cs : Causes) → first_cause cs ≡ None → Each (λ c. c.1 ≡ false) cs
+pub none_of : (cs : Causes) → first_refusal cs ≡ None → Each (λ c. c.1 ≡ false) cs
 none_of [] h = tt
 none_of (c ∷ cs) h = go (none_of cs) c.1 refl h
   where
-    go : (first_cause cs ≡ None → Each (λ c. c.1 ≡ false) cs) → (b : Bool) → c.1 ≡ b → ◌≡◌ {A = Option ℕ} (elim b [ true ↦ Some c.0 | false ↦ first_cause cs ]) None
+    go : (first_refusal cs ≡ None → Each (λ c. c.1 ≡ false) cs) → (b : Bool) → c.1 ≡ b → ◌≡◌ {A = Option ℕ} (elim b [ true ↦ Some c.0 | false ↦ first_refusal cs ]) None
         → (c.1 ≡ false) × Each (λ c. c.1 ≡ false) cs
     go later true e h = absurd (cc h)
     go later false e h = (e, later h)
@@ -44,7 +44,7 @@ pub vars_named : (s : Scope) (stmt : Statement) → name_refusal s stmt ≡ None
 unfolding query_of
 vars_named s stmt h = passed (can_be_ranged_over s.db) _ (in_map _ (key_over s) (vars_in stmt) (each_to _ _ (λ var r. ranged_named s var r) (vars_in stmt) (vars_ranged s stmt h)))
 
-pub reads : (s : Scope) (stmt : Statement) → name_refusal s stmt ≡ None → list_all (aggregate_stands s) (text_aggregates stmt) ≡ true → has_too_many s.db (query_of s stmt) ≡ false
+pub reads : (s : Scope) (stmt : Statement) → name_refusal s stmt ≡ None → list_all (aggregate_allowed s) (text_aggregates stmt) ≡ true → has_too_many s.db (query_of s stmt) ≡ false
     → has_few_targets (query_of s stmt) ≡ true → reads_fit (kept_or_viewed s.db) s.db (query_of s stmt) ≡ true
 unfolding reads_fit
 reads s stmt h k few targets =

@@ -20,7 +20,7 @@ use Rattle.calculus.specs.declared.statement.Qual.{True, Cmp}
 use Rattle.calculus.specs.declared.statement.Item.TheVariants as item
 use Rattle.calculus.specs.declared.statement.Statement.TheVariants as statement
 use Rattle.calculus.specs.Catalogue.{catalogue_at}
-use Rattle.calculus.specs.Constant.{constant_text, marks}
+use Rattle.calculus.specs.Constant.{constant_text, unescaped}
 use Rattle.calculus.specs.Finding.{found}
 use Rattle.calculus.specs.Kinds.{kind_of, attribute_kind, constant_kind, number_kind, operated_kind, joined_kind, is_text_kind, kinds_fit, comparable}
 use Rattle.calculus.specs.QueryParts.{term_aggregates, qual_aggregates}
@@ -32,12 +32,12 @@ use Rattle.quel_meaning.specs.Ranges.{range_of}
 use Rattle.quel_meaning.specs.Scope.{named, ranged, entry_named}
 use Rattle.quel_meaning.specs.WrittenParts.{aggregate_vars, aggregates_in, aggregates_in_qual, vars_in}
 use Rattle.quel_meaning.specs.Naming.{mentions, name_refusal}
-use Rattle.quel_meaning.specs.Aggregates.{aggregate_stands, aggregates_stand}
+use Rattle.quel_meaning.specs.Aggregates.{aggregate_allowed, aggregates_allowed}
 use Rattle.quel_meaning.specs.KindsInQueries.{aggregate_kind, kind_in_query, kinds_fit_in_query, query_fits, assignments_fit}
 use Rattle.quel_meaning.specs.WrittenQuery.{where_tree, query_of}
 use Rattle.quel_meaning.specs.Passing.{has_too_many, is_full, is_too_large, is_too_wide, is_taken}
 use Rattle.quel_meaning.specs.StatementUpdate.{append_of, replace_of, delete_of, into_of}
-use Rattle.quel_meaning.specs.Causes.{causes}
+use Rattle.quel_meaning.specs.Causes.{refusals}
 use Rattle.quel_meaning.specs.Resolved.{tree_of, resolved}
 use Rattle.quel_meaning.proofs.SmallTexts.{key, of, dot, retrieve, ea, count_of, set, eb, fk, int, chars, target, sum_by_k, plus_one, counted}
 
@@ -74,7 +74,7 @@ record Refused : Type 0 where
   binary_text : of (statement.Copy (codes "p") ((codes "a", Until 9) ∷ (codes "b", Bin 2) ∷ []) true (codes "f")) ≡ Err 13
 
 refused : Refused
-unfolding resolved tree_of name_refusal mentions range_of ranged named found entry_named info_at range_at catalogue_at causes aggregates_stand aggregate_stands aggregate_vars aggregates_in aggregates_in_qual vars_in query_of where_tree append_of replace_of delete_of into_of kind_in_query kinds_fit_in_query aggregate_kind query_fits assignments_fit kind_of attribute_kind constant_kind number_kind operated_kind joined_kind is_text_kind kinds_fit comparable constant_text marks has_too_many is_full is_too_large is_too_wide is_taken variables expanded_variables update_variables update_expanded_variables term_aggregates qual_aggregates measure_of term_size qual_size query_size query_level level_of
+unfolding resolved tree_of name_refusal mentions range_of ranged named found entry_named info_at range_at catalogue_at refusals aggregates_allowed aggregate_allowed aggregate_vars aggregates_in aggregates_in_qual vars_in query_of where_tree append_of replace_of delete_of into_of kind_in_query kinds_fit_in_query aggregate_kind query_fits assignments_fit kind_of attribute_kind constant_kind number_kind operated_kind joined_kind is_text_kind kinds_fit comparable constant_text unescaped has_too_many is_full is_too_large is_too_wide is_taken variables expanded_variables update_variables update_expanded_variables term_aggregates qual_aggregates measure_of term_size qual_size query_size query_level level_of
 refused = record {
   unknown_variable = refl;
   gone_relation = refl;
@@ -160,5 +160,5 @@ record Trees : Type 0 where
   a_destroy : of (statement.Destroy (codes "two" ∷ codes "relation" ∷ [])) ≡ Ok (checked.Utility (utility.Destroy (key (codes "two") ∷ key (codes "relation") ∷ [])))
 
 trees : Trees
-unfolding resolved tree_of name_refusal mentions range_of ranged named found entry_named info_at range_at catalogue_at causes aggregates_stand aggregate_stands aggregate_vars aggregates_in aggregates_in_qual vars_in query_of where_tree append_of replace_of delete_of into_of kind_in_query kinds_fit_in_query aggregate_kind query_fits assignments_fit kind_of attribute_kind constant_kind number_kind operated_kind joined_kind is_text_kind kinds_fit comparable constant_text marks has_too_many is_full is_too_large is_too_wide is_taken variables expanded_variables update_variables update_expanded_variables term_aggregates qual_aggregates measure_of term_size qual_size query_size query_level level_of
+unfolding resolved tree_of name_refusal mentions range_of ranged named found entry_named info_at range_at catalogue_at refusals aggregates_allowed aggregate_allowed aggregate_vars aggregates_in aggregates_in_qual vars_in query_of where_tree append_of replace_of delete_of into_of kind_in_query kinds_fit_in_query aggregate_kind query_fits assignments_fit kind_of attribute_kind constant_kind number_kind operated_kind joined_kind is_text_kind kinds_fit comparable constant_text unescaped has_too_many is_full is_too_large is_too_wide is_taken variables expanded_variables update_variables update_expanded_variables term_aggregates qual_aggregates measure_of term_size qual_size query_size query_level level_of
 trees = record { a_replacement = refl; slots_in_the_text = refl; the_right_constant = refl; a_new_relation = refl; an_append_of_all = refl; a_rule = refl; a_hash = refl; a_heap = refl; a_print = refl; a_help = refl; a_destroy = refl }

@@ -12,7 +12,7 @@ use Rattle.calculus.specs.Name.{is_name}
 use Rattle.quel_grammar.specs.Words.{fixed_of, symbol_at}
 use Rattle.quel_grammar.specs.Lexer.{piece_at, word_at, int_at, text_at, token_at}
 use Rattle.quel_grammar.specs.Pieces.{pieces_from, pieces_behind}
-use Rattle.quel_grammar.specs.Next.{first_place, line_at}
+use Rattle.quel_grammar.specs.Next.{first_offset, line_at}
 use Rattle.quel_meaning.specs.Batch.{read_within, batch_from}
 use Rattle.quel_meaning.specs.Happening.{over}
 use Rattle.quel_meaning.specs.Running.{after_statement, after_batch, carried_out, after_command, after_part, after_line, after_lines, files_within}
@@ -77,7 +77,7 @@ record Examples : Type 0 where
   without_a_name : output (of (codes "\\i\n\\w  \n")) ≡ line (codes "refused 2 line 0: monitor command") ++ line (codes "refused 2 line 0: monitor command")
 
 examples : Examples
-unfolding digits fetched stored refusal_bytes reply_bytes lines_of file_name command_of parts_from with_piece buffer_after first_place line_at pieces_from pieces_behind piece_at word_at int_at text_at token_at fixed_of symbol_at is_name is_chars read_within batch_from over after_statement after_batch carried_out after_command after_part after_line after_lines files_within session_of session_of_lines printed ended
+unfolding digits fetched stored refusal_bytes reply_bytes lines_of file_name command_of parts_from with_piece buffer_after first_offset line_at pieces_from pieces_behind piece_at word_at int_at text_at token_at fixed_of symbol_at is_name is_chars read_within batch_from over after_statement after_batch carried_out after_command after_part after_line after_lines files_within session_of session_of_lines printed ended
 examples = record {
   commands = refl;
   in_order = refl;

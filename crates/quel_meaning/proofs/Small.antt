@@ -12,7 +12,7 @@ use Rattle.calculus.specs.declared.reply.Column.{Column}
 use Rattle.calculus.specs.Database.{Db, Relation}
 use Rattle.calculus.specs.Keys.{key_of}
 use Rattle.calculus.specs.Rows.{Row}
-use Rattle.calculus.specs.Who.{Free}
+use Rattle.calculus.specs.Who.{Unrestricted}
 use Rattle.fault_io.specs.Files.{Files}
 use Rattle.quel_meaning.specs.Meaning.{Effect, tree_meaning}
 
@@ -39,7 +39,7 @@ heap name attrs rows = record { info = record { key = key name; spec = spec.Heap
 -- what trees leave and reply that are carried out for ann one after the other
 abbrev pub effects : Db → Files → List Checked → List Effect
 effects db shelf [] = []
-effects db shelf (tree ∷ trees) = let e = tree_meaning db shelf Free ann tree in e ∷ effects e.db e.shelf trees
+effects db shelf (tree ∷ trees) = let e = tree_meaning db shelf Unrestricted ann tree in e ∷ effects e.db e.shelf trees
 
 -- their replies
 abbrev pub replies : List Effect → List Reply

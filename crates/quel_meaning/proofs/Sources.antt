@@ -18,7 +18,7 @@ use Rattle.calculus.specs.Sizes.{measure_of}
 use Rattle.calculus.specs.Stored.{attrs_in}
 use Rattle.quel_meaning.specs.Scope.{Scope, ranged, key_found}
 use Rattle.quel_meaning.specs.WrittenParts.{Dotted, attributes, attributes_in_row, attributes_in_qual, attributes_in_aggregate, aggregate_vars, aggregate_of, aggregates_in, aggregates_in_qual, aggregates_in_item, text_aggregates, items_of, where_of, vars_in}
-use Rattle.quel_meaning.specs.Aggregates.{is_one_plain, holds_another, aggregate_stands}
+use Rattle.quel_meaning.specs.Aggregates.{is_one_plain, holds_another, aggregate_allowed}
 use Rattle.quel_meaning.specs.Naming.{Mention, dotted, AttrIn, AttrOf, item_mentions, query_mentions, new_title, mentions, name_refusal}
 use Rattle.quel_meaning.specs.WrittenTree.{Vars, var_place, first_var, term_tree, aggregate_tree, qual_tree}
 use Rattle.quel_meaning.specs.WrittenQuery.{item_targets, targets_from, where_tree, query_of}
@@ -86,7 +86,7 @@ parts_ranged s stmt h = go stmt (names_found s stmt h)
 
 -- an aggregate of a text may stand
 abbrev Stands : Scope → AggTerm → Type 0
-Stands s g = aggregate_stands s g ≡ true
+Stands s g = aggregate_allowed s g ≡ true
 
 -- the source of an aggregate of a tree is allowed
 abbrev pub IsAllowed : Scope → QAgg → Type 0
@@ -104,7 +104,7 @@ one_plain s (var ∷ other ∷ more) h k = absurd (cc k)
 
 of_row : (s : Scope) (vars : Vars) (n : ℕ) → {m : _} → (row : Row_of-AggTerm m) → AreRanged s (attributes_in_aggregate row) → Each (Stands s) (aggregate_of row)
     → Each (IsAllowed s) (term_aggregates (aggregate_tree s vars n row))
-unfolding term_aggregates source_fits aggregate_stands aggregate_vars
+unfolding term_aggregates source_fits aggregate_allowed aggregate_vars
 of_row s vars n end_of-AggTerm h k = tt
 of_row s vars n (more_of-AggTerm op arg bys by qual rest) h k = (one_plain s _ over (right (not (holds_another g)) _ k.0), tt)
   where
@@ -168,7 +168,7 @@ of_items s vars n (i ∷ items) h k =
     (of_items s vars (n + length (aggregates_in_item i)) items h.1 (back_of _ (aggregates_in_item i) _ k)))
 
 -- the aggregates of a statement's query are over what is allowed, where they may stand and its names were found
-pub sources_allowed : (s : Scope) (stmt : Statement) → name_refusal s stmt ≡ None → list_all (aggregate_stands s) (text_aggregates stmt) ≡ true
+pub sources_allowed : (s : Scope) (stmt : Statement) → name_refusal s stmt ≡ None → list_all (aggregate_allowed s) (text_aggregates stmt) ≡ true
     → sources_fit (kept_or_viewed s.db) s.db (query_of s stmt) ≡ true
 unfolding query_of where_tree
 sources_allowed s stmt h k =
@@ -182,4 +182,4 @@ sources_allowed s stmt h k =
     parts = parts_ranged s stmt h
 
     standing : Each (Stands s) (text_aggregates stmt)
-    standing = each_passes (aggregate_stands s) (text_aggregates stmt) k
+    standing = each_passes (aggregate_allowed s) (text_aggregates stmt) k

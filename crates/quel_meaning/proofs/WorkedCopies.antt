@@ -23,7 +23,7 @@ use Rattle.calculus.specs.Assignments.{assigned}
 use Rattle.calculus.specs.Catalogue.{catalogue_at}
 use Rattle.calculus.specs.Change.{laid}
 use Rattle.calculus.specs.Chars.{is_chars}
-use Rattle.calculus.specs.Constant.{constant_text, marks}
+use Rattle.calculus.specs.Constant.{constant_text, unescaped}
 use Rattle.calculus.specs.Database.{Db}
 use Rattle.calculus.specs.Kinds.{is_text_kind}
 use Rattle.calculus.specs.Pattern.{matches, items, fits_items}
@@ -37,7 +37,7 @@ use Rattle.calculus.specs.VariableRows.{rows_of}
 use Rattle.quel_meaning.proofs.Small.{ann, key, attr, target, column, heap, one_relation, effects}
 use Rattle.quel_meaning.specs.Copying.{rows_in_file, file_of_rows, copied_from, copied_into, refusal, bad_row}
 use Rattle.quel_meaning.specs.Meaning.{tree_meaning, utility_effect}
-use Rattle.quel_meaning.specs.Planned.{planned, plan_causes, plan_change}
+use Rattle.quel_meaning.specs.Planned.{planned, plan_refusals, plan_change}
 use Rattle.fault_io.specs.Files.{fetched, stored}
 use Rattle.quel_meaning.specs.Tables.{table_of, some_query_lacks, sorted, rows_order}
 
@@ -75,7 +75,7 @@ stored_and_refused : effects db ((codes "in", codes "8\nx\n") ∷ []) (lines fal
     }
     ∷ record { db = db; shelf = (codes "in", codes "8\nx\n") ∷ (codes "out", codes "7\n") ∷ []; reply = Refused (bad_row 2) }
     ∷ []
-unfolding tree_meaning utility_effect copied_from copied_into rows_in_file file_of_rows fetched stored planned plan_causes plan_change laid table_of some_query_lacks sorted rows_order answer lacks rows_given some_lacks assigned rows_of aggregates range_at info_at catalogue_at may covers val holds attribute_value compared_values matched_value constant_text marks matches items fits_items text_of is_chars is_text_kind digits
+unfolding tree_meaning utility_effect copied_from copied_into rows_in_file file_of_rows fetched stored planned plan_refusals plan_change laid table_of some_query_lacks sorted rows_order answer lacks rows_given some_lacks assigned rows_of aggregates range_at info_at catalogue_at may covers val holds attribute_value compared_values matched_value constant_text unescaped matches items fits_items text_of is_chars is_text_kind digits
 stored_and_refused = refl
 
 -- a number and a text
@@ -140,14 +140,14 @@ ruled_db = record db { rules = (key (codes "p"), record { number = 1; qual = Cmp
 -- a row that breaks a rule is left out, and one that is there is not put again; the file has the name with escapes removed and blanks kept
 left_out : copied_from ruled_db ((codes "a\"b ", codes "3\n9\n7\n9\n") ∷ []) ann (key (codes "p")) (col 0 (Until 10) ∷ []) (codes "a\\\"b ")
     ≡ Ok (change.Rows (key (codes "p")) [] ((Int (pos 9) ∷ []) ∷ []))
-unfolding copied_from rows_in_file fetched range_at info_at catalogue_at val holds attribute_value compared_values marks text_of is_text_kind
+unfolding copied_from rows_in_file fetched range_at info_at catalogue_at val holds attribute_value compared_values unescaped text_of is_text_kind
 left_out = refl
 
 no_such_file : copied_from db [] ann (key (codes "p")) (col 0 (Until 10) ∷ []) (codes "in") ≡ Err (refusal 32)
-unfolding copied_from fetched marks
+unfolding copied_from fetched unescaped
 no_such_file = refl
 
 -- another user is refused before the file is looked for
 not_the_owner : copied_from db [] (codes "bob") (key (codes "p")) (col 0 (Until 10) ∷ []) (codes "in") ≡ Err (refusal 24)
-unfolding copied_from fetched marks
+unfolding copied_from fetched unescaped
 not_the_owner = refl

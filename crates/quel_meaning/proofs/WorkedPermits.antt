@@ -20,7 +20,7 @@ use Rattle.calculus.specs.Term.{val, holds, attribute_value, compared_values}
 use Rattle.quel_meaning.proofs.Small.{ann, key, attr, heap, nothing, one_relation, effects, replies}
 use Rattle.quel_meaning.specs.Copying.{refusal}
 use Rattle.quel_meaning.specs.Meaning.{tree_meaning, utility_effect}
-use Rattle.quel_meaning.specs.Planned.{planned, plan_causes, plan_change}
+use Rattle.quel_meaning.specs.Planned.{planned, plan_refusals, plan_change}
 
 -- a permit without a number
 abbrev permit : ℕ → List ℕ → QQual → Permit
@@ -38,7 +38,7 @@ numbers_again : replies (effects nothing []
     ∷ Utility (utility.DropPermits (key (codes "p")) [])
     ∷ []))
     ≡ Done ∷ Done ∷ Done ∷ Done ∷ Done ∷ Refused (refusal 19) ∷ Done ∷ Done ∷ []
-unfolding tree_meaning utility_effect planned plan_causes plan_change laid range_at info_at catalogue_at
+unfolding tree_meaning utility_effect planned plan_refusals plan_change laid range_at info_at catalogue_at
 numbers_again = refl
 
 -- p (a) of ann holds 3 and 5
@@ -55,21 +55,21 @@ above_two = Cmp Gt (Attr 0 0) (Int (pos 2))
 
 -- a rule that a standing row breaks is refused, another one gets the number 1
 broken_rule : planned db ann (utility.Rule (key (codes "p")) (record { number = 0; qual = above_three })) ≡ Err 27
-unfolding planned plan_causes plan_change range_at info_at catalogue_at val holds attribute_value compared_values
+unfolding planned plan_refusals plan_change range_at info_at catalogue_at val holds attribute_value compared_values
 broken_rule = refl
 
 kept_rule : planned db ann (utility.Rule (key (codes "p")) (record { number = 0; qual = above_two }))
     ≡ Ok (change.Rule (key (codes "p")) (record { number = 1; qual = above_two }))
-unfolding planned plan_causes plan_change range_at info_at catalogue_at val holds attribute_value compared_values
+unfolding planned plan_refusals plan_change range_at info_at catalogue_at val holds attribute_value compared_values
 kept_rule = refl
 
 -- another user is refused, as his own relation is no matter for permits of another administrator
 anothers_rule : planned db (codes "bob") (utility.Rule (key (codes "p")) (record { number = 0; qual = above_two })) ≡ Err 24
-unfolding planned plan_causes plan_change range_at info_at catalogue_at val holds attribute_value compared_values
+unfolding planned plan_refusals plan_change range_at info_at catalogue_at val holds attribute_value compared_values
 anothers_rule = refl
 
 -- the numbers of dropped permits are listed ascending, each once
 dropped_numbers : planned (record db { permits = (key (codes "p"), permit 1 ann True) ∷ [] }) ann (utility.DropPermits (key (codes "p")) (0 ∷ 0 ∷ []))
     ≡ Ok (change.DropPermits (key (codes "p")) (0 ∷ []))
-unfolding planned plan_causes plan_change range_at info_at catalogue_at
+unfolding planned plan_refusals plan_change range_at info_at catalogue_at
 dropped_numbers = refl

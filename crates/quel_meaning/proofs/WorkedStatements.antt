@@ -35,7 +35,7 @@ use Rattle.calculus.specs.Who.{asker_of}
 use Rattle.calculus.specs.VariableRows.{rows_of}
 use Rattle.quel_meaning.proofs.Small.{ann, key, attr, target, column, heap, one_relation}
 use Rattle.quel_meaning.specs.Copying.{refusal}
-use Rattle.quel_meaning.specs.Meaning.{meaning_by, judged_by, checked_permitted, ruled_tree, tree_meaning}
+use Rattle.quel_meaning.specs.Meaning.{meaning_by, checked_tree_by, checked_permitted, ruled_tree, tree_meaning}
 use Rattle.quel_meaning.specs.Ranges.{declared}
 use Rattle.quel_meaning.specs.State.{Outcome}
 use Rattle.quel_meaning.specs.Tables.{table_of, some_query_lacks, sorted, rows_order}
@@ -68,18 +68,18 @@ sal = target (codes "sal") (Of I2) 1
 
 -- each permit is for one attribute, and none is for both
 no_permit_for_both : (outcome permits_db (codes "bob") (retrieve (name ∷ sal ∷ []))).reply ≡ Refused (refusal 23)
-unfolding meaning_by judged_by checked_permitted query_permitted readable permitted covers term_aggregates qual_aggregates range_at info_at catalogue_at
+unfolding meaning_by checked_tree_by checked_permitted query_permitted readable permitted covers term_aggregates qual_aggregates range_at info_at catalogue_at
 no_permit_for_both = refl
 
 one_permit_is_enough : (outcome permits_db (codes "bob") (retrieve (name ∷ []))).reply
     ≡ Tables ((record { columns = column (codes "name") (Of (C 6)) ∷ []; rows = (value.Text (codes "bo") ∷ []) ∷ [] }) ∷ [])
-unfolding meaning_by judged_by checked_permitted query_permitted readable permitted covers may term_aggregates qual_aggregates range_at info_at catalogue_at ruled_tree tree_meaning table_of some_query_lacks sorted rows_order answer lacks rows_given some_lacks assigned rows_of aggregates val holds attribute_value
+unfolding meaning_by checked_tree_by checked_permitted query_permitted readable permitted covers may term_aggregates qual_aggregates range_at info_at catalogue_at ruled_tree tree_meaning table_of some_query_lacks sorted rows_order answer lacks rows_given some_lacks assigned rows_of aggregates val holds attribute_value
 one_permit_is_enough = refl
 
 -- delete e
 no_permit_to_delete : outcome permits_db (codes "bob") (Update (record { op = Delete; rel = key (codes "emp"); old = 0; places = []; query = query (key (codes "emp") ∷ []) [] True; checks = []; new_cut = True }))
     ≡ record { state = record { db = permits_db; shelf = []; ranges = [] }; reply = Refused (refusal 23) }
-unfolding meaning_by judged_by checked_permitted update_permitted readable permitted covers term_aggregates qual_aggregates range_at info_at catalogue_at
+unfolding meaning_by checked_tree_by checked_permitted update_permitted readable permitted covers term_aggregates qual_aggregates range_at info_at catalogue_at
 no_permit_to_delete = refl
 
 -- w (sal) holds 12 and 20, each above 10
@@ -106,7 +106,7 @@ rules_are_kept : outcome rules_db ann (Update (record {
       };
       reply = Done;
     }
-unfolding meaning_by judged_by checked_permitted update_permitted readable permitted covers may term_aggregates qual_aggregates range_at info_at catalogue_at ruled_tree tree_meaning updated pairs ruled after contended update_assigned some_lacks rows_of aggregates val holds attribute_value operated_values compared_values laid
+unfolding meaning_by checked_tree_by checked_permitted update_permitted readable permitted covers may term_aggregates qual_aggregates range_at info_at catalogue_at ruled_tree tree_meaning updated pairs ruled after contended update_assigned some_lacks rows_of aggregates val holds attribute_value operated_values compared_values laid
 rules_are_kept = refl
 
 -- retrieve (x = 10 / (e.sal - 20)): a row without a value refuses it, and nothing is printed
@@ -114,13 +114,13 @@ lacks_a_value : (outcome rules_db ann (Answer ((record {
   query = query (key (codes "w") ∷ []) ((record { name = codes "x"; kind = Wide; term = operation Div (Int (pos 10)) (operation Sub (Attr 0 0) (Int (pos 20))) }) ∷ []) True;
   sort = [];
 }) ∷ []))).reply ≡ Refused (refusal 20)
-unfolding meaning_by judged_by checked_permitted query_permitted readable permitted covers may term_aggregates qual_aggregates range_at info_at catalogue_at ruled_tree tree_meaning table_of some_query_lacks sorted rows_order answer lacks rows_given some_lacks assigned rows_of aggregates val holds attribute_value operated_values
+unfolding meaning_by checked_tree_by checked_permitted query_permitted readable permitted covers may term_aggregates qual_aggregates range_at info_at catalogue_at ruled_tree tree_meaning table_of some_query_lacks sorted rows_order answer lacks rows_given some_lacks assigned rows_of aggregates val holds attribute_value operated_values
 lacks_a_value = refl
 
 -- retrieve (e.sal) sort by sal:d
 falling : (outcome rules_db ann (Answer ((record { query = query (key (codes "w") ∷ []) (target (codes "sal") (Of I2) 0 ∷ []) True; sort = (record { column = 0; down = true }) ∷ [] }) ∷ []))).reply
     ≡ Tables ((record { columns = column (codes "sal") (Of I2) ∷ []; rows = (value.Int (pos 20) ∷ []) ∷ (value.Int (pos 12) ∷ []) ∷ [] }) ∷ [])
-unfolding meaning_by judged_by checked_permitted query_permitted readable permitted covers may term_aggregates qual_aggregates range_at info_at catalogue_at ruled_tree tree_meaning table_of some_query_lacks sorted rows_order answer lacks rows_given some_lacks assigned rows_of aggregates val holds attribute_value
+unfolding meaning_by checked_tree_by checked_permitted query_permitted readable permitted covers may term_aggregates qual_aggregates range_at info_at catalogue_at ruled_tree tree_meaning table_of some_query_lacks sorted rows_order answer lacks rows_given some_lacks assigned rows_of aggregates val holds attribute_value
 falling = refl
 
 -- range of e is emp, for bob, who has none of that name: it is ann's

@@ -18,7 +18,7 @@ use Rattle.calculus.specs.Answer.{answer, lacks}
 use Rattle.calculus.specs.Assignments.{assigned}
 use Rattle.calculus.specs.Catalogue.{catalogue_at}
 use Rattle.calculus.specs.Change.{laid}
-use Rattle.calculus.specs.Constant.{constant_text, marks}
+use Rattle.calculus.specs.Constant.{constant_text, unescaped}
 use Rattle.calculus.specs.Pattern.{matches, items, fits_items}
 use Rattle.calculus.specs.Rights.{may, covers}
 use Rattle.calculus.specs.Stored.{range_at, info_at}
@@ -28,7 +28,7 @@ use Rattle.calculus.specs.Tree.{query}
 use Rattle.calculus.specs.VariableRows.{rows_of}
 use Rattle.quel_meaning.proofs.Small.{key, attr, target, column, nothing, effects, replies}
 use Rattle.quel_meaning.specs.Meaning.{tree_meaning, utility_effect}
-use Rattle.quel_meaning.specs.Planned.{planned, plan_causes, plan_change}
+use Rattle.quel_meaning.specs.Planned.{planned, plan_refusals, plan_change}
 use Rattle.quel_meaning.specs.Tables.{table_of, some_query_lacks, sorted, rows_order}
 
 -- retrieve (r.relid, r.relspec, r.relatts) where r.relatts = 1, with r over the catalogue of relations
@@ -55,5 +55,5 @@ made_and_destroyed : replies (effects nothing []
       rows = (Text (codes "p") ∷ Text (codes "heap") ∷ Int (pos 1) ∷ []) ∷ (Text (codes "pi") ∷ Text (codes "index") ∷ Int (pos 1) ∷ []) ∷ [];
     }) ∷ [])
     ∷ Done ∷ Done ∷ Done ∷ []
-unfolding tree_meaning utility_effect planned plan_causes plan_change laid table_of some_query_lacks sorted rows_order answer lacks rows_given some_lacks assigned rows_of aggregates range_at info_at catalogue_at may covers val holds attribute_value compared_values matched_value constant_text marks matches items fits_items
+unfolding tree_meaning utility_effect planned plan_refusals plan_change laid table_of some_query_lacks sorted rows_order answer lacks rows_given some_lacks assigned rows_of aggregates range_at info_at catalogue_at may covers val holds attribute_value compared_values matched_value constant_text unescaped matches items fits_items
 made_and_destroyed = refl

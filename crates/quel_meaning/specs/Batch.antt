@@ -1,7 +1,7 @@
 -- What is read of a batch: its statements, and where it is refused.
 use Rattle.std.specs.Prelude.{◌≡◌, ℕ, zero, suc, ◌≤◌, ◌<◌, List, [], ◌∷◌, length, Option, Some, None}
 use Rattle.calculus.specs.declared.statement.Statement.{Statement}
-use Rattle.quel_grammar.specs.Next.{Next, Nothing, Read, Syntax, Reading, first_place, line_at}
+use Rattle.quel_grammar.specs.Next.{Next, Nothing, Read, Syntax, Reading, first_offset, line_at}
 
 -- a statement, and the line of its first token
 pub record StatementAt : Type 0 where
@@ -23,7 +23,7 @@ read_before first batch = record { statements = first ∷ batch.statements; refu
 
 -- a statement that is read from a place of a text on
 abbrev pub statement_at : List ℕ → ℕ → Statement → StatementAt
-statement_at text from statement = record { statement = statement; line = line_at text (first_place text from) }
+statement_at text from statement = record { statement = statement; line = line_at text (first_offset text from) }
 
 -- a batch that is refused at a place of its text
 abbrev pub refused_at : List ℕ → ℕ → Batch

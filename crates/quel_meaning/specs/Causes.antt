@@ -21,10 +21,10 @@ use Rattle.calculus.specs.Stored.{kinds_at}
 use Rattle.calculus.specs.QueryParts.{vars_of, targets_of, qual_of}
 use Rattle.calculus.specs.Replacement.{made_attr}
 use Rattle.calculus.specs.Change.{permit_numbers, rule_numbers}
-use Rattle.calculus.specs.IsDatabase.{row_qual_stands}
+use Rattle.calculus.specs.IsDatabase.{valid_row_qual}
 use Rattle.calculus.specs.Storable.{row_qual_is_small}
 use Rattle.quel_meaning.specs.Scope.{Scope, named, ranged, entry_named, key_found, place_found}
-use Rattle.quel_meaning.specs.Aggregates.{aggregates_stand}
+use Rattle.quel_meaning.specs.Aggregates.{aggregates_allowed}
 use Rattle.quel_meaning.specs.KindsInQueries.{query_fits, assignments_fit}
 use Rattle.quel_meaning.specs.WrittenQuery.{query_of}
 use Rattle.quel_meaning.specs.StatementUpdate.{titles_of, append_of, replace_of, delete_of}
@@ -56,8 +56,8 @@ abbrev pub made_kinds : Query → List Kind
 made_kinds q = map (λ t. (made_attr t).kind) (targets_of q)
 
 -- what refuses a `retrieve` that prints: an aggregate, too many variables, kinds, a name to sort by, the width of its rows
-abbrev pub print_causes : Scope → Bool → List (List ℕ × Bool) → Query → Causes
-print_causes s stand sort q =
+abbrev pub print_refusals : Scope → Bool → List (List ℕ × Bool) → Query → Causes
+print_refusals s stand sort q =
     (18, not stand)
     ∷ (14, has_too_many s.db q)
     ∷ (13, not (query_fits s.db q))
@@ -66,8 +66,8 @@ print_causes s stand sort q =
     ∷ []
 
 -- what refuses a `retrieve` that makes a relation: the same, and that there is no room, that a title stands twice, that the name is in use
-abbrev pub into_causes : Scope → Bool → List ℕ → List (List ℕ × Bool) → Query → Causes
-into_causes s stand name sort q =
+abbrev pub into_refusals : Scope → Bool → List ℕ → List (List ℕ × Bool) → Query → Causes
+into_refusals s stand name sort q =
     (18, not stand)
     ∷ (14, has_too_many s.db q || is_full s.db)
     ∷ (17, repeats (titles_of q))
@@ -78,25 +78,25 @@ into_causes s stand name sort q =
     ∷ []
 
 -- what refuses an update because of its relation: a catalogue, a view
-abbrev pub changed_causes : Scope → Update → Causes
-changed_causes s u = (28, is_catalogue s.db u.rel) ∷ (26, is_some (view_at s.db u.rel)) ∷ []
+abbrev pub changed_refusals : Scope → Update → Causes
+changed_refusals s u = (28, is_catalogue s.db u.rel) ∷ (26, is_some (view_at s.db u.rel)) ∷ []
 
 -- what refuses an append or a replacement: an aggregate, too many variables, an attribute that is set twice, kinds, the relation
-abbrev pub update_causes : Scope → Bool → Update → Causes
-update_causes s stand u =
+abbrev pub update_refusals : Scope → Bool → Update → Causes
+update_refusals s stand u =
     (18, not stand)
     ∷ (14, has_too_many s.db u.query)
     ∷ (17, repeats (titles_of u.query))
     ∷ (13, not (query_fits s.db u.query && assignments_fit s.db u))
-    ∷ changed_causes s u
+    ∷ changed_refusals s u
 
 -- what refuses a deletion: the same, but it sets no attribute
-abbrev pub delete_causes : Scope → Bool → Update → Causes
-delete_causes s stand u = (18, not stand) ∷ (14, has_too_many s.db u.query) ∷ (13, not (query_fits s.db u.query)) ∷ changed_causes s u
+abbrev pub delete_refusals : Scope → Bool → Update → Causes
+delete_refusals s stand u = (18, not stand) ∷ (14, has_too_many s.db u.query) ∷ (13, not (query_fits s.db u.query)) ∷ changed_refusals s u
 
 -- what refuses a view: an aggregate; too many variables, no room, its size or level; a title that stands twice; kinds; the width of its rows; a name in use
-abbrev pub view_causes : Scope → Bool → List ℕ → Query → Causes
-view_causes s stand name q =
+abbrev pub view_refusals : Scope → Bool → List ℕ → Query → Causes
+view_refusals s stand name q =
     (18, not stand)
     ∷ (14, has_too_many s.db q || (is_full s.db || is_too_large s.db q))
     ∷ (17, repeats (titles_of q))
@@ -106,11 +106,11 @@ view_causes s stand name q =
     ∷ []
 
 -- what refuses a permit or a rule on what was found: an aggregate; a second variable, no room among those that stand there, a size; kinds
-abbrev pub row_causes : Scope → Bool → Option RelInfo → Bool → Query → Causes
-row_causes s stand info no_room q =
+abbrev pub row_refusals : Scope → Bool → Option RelInfo → Bool → Query → Causes
+row_refusals s stand info no_room q =
     (18, not stand)
     ∷ (14, nat_lt 1 (length (vars_of q)) || (no_room || not (row_qual_is_small (qual_of q))))
-    ∷ (13, not (row_qual_stands s.db (key_found info) (qual_of q)))
+    ∷ (13, not (valid_row_qual s.db (key_found info) (qual_of q)))
     ∷ []
 
 -- a column of a file has a number's bytes
@@ -128,29 +128,29 @@ abbrev pub repeats_keys : Scope → List (List ℕ) → Bool
 repeats_keys s names = not (differ_by same_key (filter_map (entry_named s) names))
 
 -- what refuses a statement whose aggregates stand, or don't, and whose query is this
-abbrev pub causes_by : Scope → Bool → Query → Statement → Causes
-causes_by s stand q (statement.Range var rel) = []
-causes_by s stand q (statement.Retrieve None items qual sort) = print_causes s stand sort q
-causes_by s stand q (statement.Retrieve (Some name) items qual sort) = into_causes s stand name sort q
-causes_by s stand q (statement.Append rel items qual) = update_causes s stand (append_of s rel q)
-causes_by s stand q (statement.Replace var items qual) = update_causes s stand (replace_of s var q)
-causes_by s stand q (statement.Delete var qual) = delete_causes s stand (delete_of s var q)
-causes_by s stand q (statement.Create rel attrs) =
+abbrev pub refusals_by : Scope → Bool → Query → Statement → Causes
+refusals_by s stand q (statement.Range var rel) = []
+refusals_by s stand q (statement.Retrieve None items qual sort) = print_refusals s stand sort q
+refusals_by s stand q (statement.Retrieve (Some name) items qual sort) = into_refusals s stand name sort q
+refusals_by s stand q (statement.Append rel items qual) = update_refusals s stand (append_of s rel q)
+refusals_by s stand q (statement.Replace var items qual) = update_refusals s stand (replace_of s var q)
+refusals_by s stand q (statement.Delete var qual) = delete_refusals s stand (delete_of s var q)
+refusals_by s stand q (statement.Create rel attrs) =
     (14, is_full s.db) ∷ (17, repeats (map (λ a. a.0) attrs)) ∷ (16, is_too_wide (map (λ a. Of a.1) attrs)) ∷ (15, is_taken s.db s.user rel) ∷ []
-causes_by s stand q (statement.Destroy rels) = (17, repeats_keys s rels) ∷ []
-causes_by s stand q (statement.DropPermits rel numbers) = []
-causes_by s stand q (statement.DropRules rel numbers) = []
-causes_by s stand q (statement.Modify rel to keys) = (17, repeats keys) ∷ []
-causes_by s stand q (statement.Index base name keys) = (17, repeats keys) ∷ (14, is_full s.db) ∷ (15, is_taken s.db s.user name) ∷ []
-causes_by s stand q (statement.Print rels) = []
-causes_by s stand q (statement.Help rel) = []
-causes_by s stand q (statement.Copy rel columns from file) =
+refusals_by s stand q (statement.Destroy rels) = (17, repeats_keys s rels) ∷ []
+refusals_by s stand q (statement.DropPermits rel numbers) = []
+refusals_by s stand q (statement.DropRules rel numbers) = []
+refusals_by s stand q (statement.Modify rel to keys) = (17, repeats keys) ∷ []
+refusals_by s stand q (statement.Index base name keys) = (17, repeats keys) ∷ (14, is_full s.db) ∷ (15, is_taken s.db s.user name) ∷ []
+refusals_by s stand q (statement.Print rels) = []
+refusals_by s stand q (statement.Help rel) = []
+refusals_by s stand q (statement.Copy rel columns from file) =
     (17, repeats (map (λ c. c.0) columns)) ∷ (13, list_any (is_binary_text s (named s rel)) columns) ∷ []
-causes_by s stand q (statement.View name items qual) = view_causes s stand name q
-causes_by s stand q (statement.Permit ops var attrs user qual) =
-    row_causes s stand (ranged s var) (is_past_limit most_permits (permit_numbers s.db (key_found (ranged s var))) || nat_lt most_listed_attributes (length attrs)) q
-causes_by s stand q (statement.Rule var qual) = row_causes s stand (ranged s var) (is_past_limit most_rules (rule_numbers s.db (key_found (ranged s var)))) q
+refusals_by s stand q (statement.View name items qual) = view_refusals s stand name q
+refusals_by s stand q (statement.Permit ops var attrs user qual) =
+    row_refusals s stand (ranged s var) (is_past_limit most_permits (permit_numbers s.db (key_found (ranged s var))) || nat_lt most_listed_attributes (length attrs)) q
+refusals_by s stand q (statement.Rule var qual) = row_refusals s stand (ranged s var) (is_past_limit most_rules (rule_numbers s.db (key_found (ranged s var)))) q
 
--- what refuses a statement whose names were found, in the order in which it counts; what the user may do and what the rows decide is judged later
-unfoldable pub causes : Scope → Statement → Causes
-causes s stmt = causes_by s (aggregates_stand s stmt) (query_of s stmt) stmt
+-- what refuses a statement whose names were found, in the order in which it counts; what the user may do and what the rows decide is checked later
+unfoldable pub refusals : Scope → Statement → Causes
+refusals s stmt = refusals_by s (aggregates_allowed s stmt) (query_of s stmt) stmt

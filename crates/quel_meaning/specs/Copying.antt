@@ -8,7 +8,7 @@ use Rattle.calculus.specs.declared.request.CopyCol.{CopyCol}
 use Rattle.calculus.specs.declared.change.DbChange.{DbChange}
 use Rattle.calculus.specs.declared.change.DbChange.TheVariants as change
 use Rattle.calculus.specs.declared.reply.Refusal.{Refusal}
-use Rattle.calculus.specs.Constant.{marks, plain_bytes}
+use Rattle.calculus.specs.Constant.{unescaped, plain_bytes}
 use Rattle.calculus.specs.Rows.{Row}
 use Rattle.calculus.specs.Term.{holds, no_aggs}
 use Rattle.calculus.specs.Lists.{is_any}
@@ -16,10 +16,10 @@ use Rattle.calculus.specs.Limits.{most_rows}
 use Rattle.calculus.specs.Database.{Db, rules_on}
 use Rattle.calculus.specs.Stored.{rows_at, kinds_at}
 use Rattle.calculus.specs.Pairs.{blank, with_values}
-use Rattle.calculus.specs.Replacement.{first_cause, with_rows, without_rows}
+use Rattle.calculus.specs.Replacement.{first_refusal, with_rows, without_rows}
 use Rattle.fault_io.specs.Files.{Files, fetched}
 use Rattle.quel_meaning.specs.Columns.{column_value, column_bytes}
-use Rattle.quel_meaning.specs.Planned.{owner_causes}
+use Rattle.quel_meaning.specs.Planned.{owner_refusals}
 
 -- the bytes of a file that is copied from
 abbrev pub most_file_bytes : ℕ
@@ -27,7 +27,7 @@ most_file_bytes = 4294967295
 
 -- the name of the file that a text constant names: its bytes with escapes removed, and with the blanks at their end
 abbrev pub file_of_constant : List ℕ → List ℕ
-file_of_constant constant = plain_bytes (marks constant)
+file_of_constant constant = plain_bytes (unescaped constant)
 
 -- a refusal with this number, of no line and no row
 abbrev pub refusal : ℕ → Refusal
@@ -89,7 +89,7 @@ file_appended db rel columns (Some bytes) = elim (nat_lt most_file_bytes (length
 
 -- the change that a copy from a file makes for the user, or its refusal
 unfoldable pub copied_from : Db → Files → List ℕ → RelKey → List CopyCol → List ℕ → Result DbChange Refusal
-copied_from db shelf user rel columns constant = elim (first_cause (owner_causes db user rel)) [
+copied_from db shelf user rel columns constant = elim (first_refusal (owner_refusals db user rel)) [
   | Some number ↦ Err (refusal number)
   | None ↦ file_appended db rel columns (fetched shelf (file_of_constant constant))
 ]
@@ -111,7 +111,7 @@ file_of_rows columns rows = elim (numbered_from 1 (map (record_bytes columns) ro
 
 -- the bytes of the file that a copy of the relation's rows makes for the user, the rows ascending; or its refusal
 unfoldable pub copied_into : Db → List ℕ → RelKey → List CopyCol → Result (List ℕ) Refusal
-copied_into db user rel columns = elim (first_cause (owner_causes db user rel)) [
+copied_into db user rel columns = elim (first_refusal (owner_refusals db user rel)) [
   | Some number ↦ Err (refusal number)
   | None ↦ elim (file_of_rows columns (rows_at db rel)) [ Ok bytes ↦ Ok bytes | Err row ↦ Err (bad_row row) ]
 ]

@@ -22,7 +22,7 @@ use Rattle.calculus.specs.Stored.{attrs_at, kinds_at}
 use Rattle.calculus.specs.QueryParts.{vars_of, targets_of, qual_of}
 use Rattle.calculus.specs.Replacement.{made_attr}
 use Rattle.calculus.specs.Sizes.{variables, expanded_variables, update_expanded_variables}
-use Rattle.calculus.specs.IsDatabase.{is_kind, attrs_stand, are_stored, keys_stand, var_kinds, query_stands, vars_are_there, row_qual_stands, permit_attrs_stand}
+use Rattle.calculus.specs.IsDatabase.{is_kind, attrs_stand, are_stored, keys_stand, var_kinds, valid_query, vars_are_there, valid_row_qual, permit_attrs_stand}
 use Rattle.calculus.specs.Storable.{row_qual_is_small}
 use Rattle.calculus.specs.Structures.{is_structure}
 use Rattle.quel_meaning.specs.Passing.{is_full, is_taken, is_too_large}
@@ -104,14 +104,14 @@ columns_fit db rel columns =
 unfoldable pub view_fits : Db → Query → Bool
 view_fits db q =
     vars_are_there db q
-    && (query_stands db q
+    && (valid_query db q
     && (attrs_stand (map target_attr (targets_of q))
     && (lists_few_vars q
     && (nat_le (variables q) most_variables && (nat_le (expanded_variables db q) most_expanded_variables && not (is_too_large db q))))))
 
 -- a qualification over a row of a relation, view or catalogue that is there: its kinds fit, no aggregate stands, and it isn't too large to be kept
 abbrev pub row_qual_fits : Db → RelKey → QQual → Bool
-row_qual_fits db rel q = can_be_ranged_over db rel && (row_qual_stands db rel q && row_qual_is_small q)
+row_qual_fits db rel q = can_be_ranged_over db rel && (valid_row_qual db rel q && row_qual_is_small q)
 
 -- a permit lists attributes of its relation, and not too many
 abbrev pub listed_attrs_fit : Db → RelKey → Permit → Bool
@@ -144,7 +144,7 @@ fits may db user tree = tree_is_spelled tree && suits may db user tree
 abbrev pub is_fit : Db → List ℕ → Checked → Bool
 is_fit db user tree = fits (kept_alone db) db user tree
 
--- a tree is fit once the views in it are put in
+-- a tree is fit once the views in it are expanded
 abbrev pub is_fit_with_views : Db → List ℕ → Checked → Bool
 is_fit_with_views db user tree = fits (kept_or_viewed db) db user tree
 

@@ -12,7 +12,7 @@ use Rattle.calculus.specs.Database.{Db}
 use Rattle.calculus.specs.Stored.{Range, Kept, Viewed, range_at, info_at}
 use Rattle.calculus.specs.QueryParts.{vars_of, targets_of, query_aggregates}
 use Rattle.calculus.specs.Sizes.{measure_of, expanded_variables}
-use Rattle.calculus.specs.IsDatabase.{query_stands}
+use Rattle.calculus.specs.IsDatabase.{valid_query}
 use Rattle.quel_meaning.specs.KindsInQueries.{query_fits}
 
 -- rows are kept: it is there and no view
@@ -38,7 +38,7 @@ kept_alone db = record { variable = is_kept db; source = is_kept db }
 abbrev pub can_be_ranged_over : Db → RelKey → Bool
 can_be_ranged_over db key = is_some (info_at db key)
 
--- views too, those that an aggregate is over having at most one variable once the views in them are put in
+-- views too, those that an aggregate is over having at most one variable once the views in them are expanded
 abbrev pub kept_or_viewed : Db → Allowed
 kept_or_viewed db = record { variable = can_be_ranged_over db; source = λ key. can_be_ranged_over db key && nat_le (measure_of db key).variables 1 }
 
@@ -54,7 +54,7 @@ has_few_targets q = nat_le (length (targets_of q)) most_attributes
 unfoldable pub source_fits : Allowed → Db → AggSource → Bool
 source_fits may db (Named key) = may.source key
 source_fits may db (rows_of_query q) =
-    list_all may.source (vars_of q) && (nat_le (length (vars_of q)) 1 && (has_few_targets q && query_stands db q))
+    list_all may.source (vars_of q) && (nat_le (length (vars_of q)) 1 && (has_few_targets q && valid_query db q))
 
 -- the sources of a query's aggregates
 abbrev pub sources_fit : Allowed → Db → Query → Bool

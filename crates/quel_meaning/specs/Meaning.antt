@@ -15,7 +15,7 @@ use Rattle.calculus.specs.declared.reply.Reply.TheVariants.{Nothing, Done, Refus
 use Rattle.calculus.specs.declared.schema.RelInfo.{RelInfo}
 use Rattle.calculus.specs.declared.statement.Statement.{Statement}
 use Rattle.calculus.specs.declared.statement.Statement.TheVariants.{Range}
-use Rattle.calculus.specs.Who.{Who, Asker, Asks}
+use Rattle.calculus.specs.Who.{Who, Asker, AsUser}
 use Rattle.calculus.specs.Database.{Db}
 use Rattle.calculus.specs.Finding.{found}
 use Rattle.calculus.specs.Permission.{query_permitted, update_permitted}
@@ -89,7 +89,7 @@ ruled_tree db (Answer asked) = Answer asked
 ruled_tree db (Update u) = Update (ruled db u)
 ruled_tree db (Utility work) = Utility work
 
--- ---- what a statement asks for, judged
+-- ---- what a statement asks for, checked
 
 -- what a statement is found to be: its tree, or the number of what refuses it
 abbrev pub Resolving : Type 0
@@ -101,17 +101,17 @@ permitted_tree true tree = Ok tree
 permitted_tree false tree = Err 23
 
 -- the tree of a statement, where all that it reads and changes is permitted to the one who asks; else 23
-abbrev pub judged_tree : Db → Asker → Result Checked ℕ → Result Checked ℕ
-judged_tree db asker (Err number) = Err number
-judged_tree db asker (Ok tree) = permitted_tree (checked_permitted db (Asks asker) tree) tree
+abbrev pub tree_if_permitted : Db → Asker → Result Checked ℕ → Result Checked ℕ
+tree_if_permitted db asker (Err number) = Err number
+tree_if_permitted db asker (Ok tree) = permitted_tree (checked_permitted db (AsUser asker) tree) tree
 
--- what a statement asks for: its tree, or the number of what refuses it before the tree is handed on; what utilities refuse of it is judged later
-unfoldable pub judged_by : Resolving → Db → Asker → Ranges → Statement → Result Checked ℕ
-judged_by resolved db asker ranges s = judged_tree db asker (resolved db asker.user ranges s)
+-- what a statement asks for: its tree, or the number of what refuses it before the tree is handed on; what utilities refuse of it is checked later
+unfoldable pub checked_tree_by : Resolving → Db → Asker → Ranges → Statement → Result Checked ℕ
+checked_tree_by resolved db asker ranges s = tree_if_permitted db asker (resolved db asker.user ranges s)
 
 -- the same, resolved as statements are
-abbrev pub judged : Db → Asker → Ranges → Statement → Result Checked ℕ
-judged db asker ranges s = judged_by resolved db asker ranges s
+abbrev pub checked_tree : Db → Asker → Ranges → Statement → Result Checked ℕ
+checked_tree db asker ranges s = checked_tree_by resolved db asker ranges s
 
 -- ---- statements
 
@@ -128,11 +128,11 @@ range_outcome state var (Some info) = record { state = record state { ranges = d
 abbrev pub with_ranges : Ranges → Effect → Outcome
 with_ranges ranges e = record { state = record { db = e.db; shelf = e.shelf; ranges = ranges }; reply = e.reply }
 
--- what a judged tree means for the one who asks, with the rules of the relation that it changes; or the statement is refused
-abbrev pub judged_outcome : State → Asker → Result Checked ℕ → Outcome
-judged_outcome state asker (Err number) = refused_outcome state number
-judged_outcome state asker (Ok tree) =
-    with_ranges state.ranges (tree_meaning state.db state.shelf (Asks asker) asker.user (ruled_tree state.db tree))
+-- what a checked tree means for the one who asks, with the rules of the relation that it changes; or the statement is refused
+abbrev pub checked_outcome : State → Asker → Result Checked ℕ → Outcome
+checked_outcome state asker (Err number) = refused_outcome state number
+checked_outcome state asker (Ok tree) =
+    with_ranges state.ranges (tree_meaning state.db state.shelf (AsUser asker) asker.user (ruled_tree state.db tree))
 
 -- the statement declares a range variable
 abbrev pub is_range : Statement → Bool
@@ -142,7 +142,7 @@ is_range s = false
 -- what a statement does for the one who asks
 unfoldable pub meaning_by : Resolving → State → Asker → Statement → Outcome
 meaning_by resolved state asker (Range var rel) = range_outcome state var (found state.db asker.user rel)
-meaning_by resolved state asker s = judged_outcome state asker (judged_by resolved state.db asker state.ranges s)
+meaning_by resolved state asker s = checked_outcome state asker (checked_tree_by resolved state.db asker state.ranges s)
 
 -- what a statement does for the one who asks, resolved as statements are
 abbrev pub meaning : State → Asker → Statement → Outcome

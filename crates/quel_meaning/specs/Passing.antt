@@ -15,12 +15,12 @@ use Rattle.calculus.specs.TreeLevels.{query_levels}
 abbrev pub listed_variables : Query → ℕ
 listed_variables q = length (vars_of q) + length (query_aggregates q)
 
--- how many they are once the views in them are put in
+-- how many they are once the views in them are expanded
 abbrev pub listed_expanded_variables : Db → Query → ℕ
 listed_expanded_variables db q =
     sum_by (λ key. (measure_of db key).variables) (vars_of q) + sum_by (λ g. source_variables (measure_of db) g.source) (query_aggregates q)
 
--- a query whose variables are all used has more of them than it may have, as it stands or once the views in it are put in
+-- a query whose variables are all used has more of them than it may have, as it stands or once the views in it are expanded
 unfoldable pub has_too_many : Db → Query → Bool
 has_too_many db q = nat_lt most_variables (listed_variables q) || nat_lt most_expanded_variables (listed_expanded_variables db q)
 

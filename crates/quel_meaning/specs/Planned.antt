@@ -21,7 +21,7 @@ use Rattle.calculus.specs.Database.{Db, view_at}
 use Rattle.calculus.specs.Catalogue.{is_catalogue}
 use Rattle.calculus.specs.Stored.{rows_at}
 use Rattle.calculus.specs.QueryParts.{vars_of, targets_of}
-use Rattle.calculus.specs.Replacement.{first_cause}
+use Rattle.calculus.specs.Replacement.{first_refusal}
 use Rattle.calculus.specs.Change.{permit_numbers, rule_numbers}
 use Rattle.quel_meaning.specs.Structures.{structure_keys}
 
@@ -57,12 +57,12 @@ abbrev pub has_view : Db → RelKey → Bool
 has_view db key = is_some (view_at db key)
 
 -- the user is not the owner
-abbrev pub is_anothers : List ℕ → RelKey → Bool
-is_anothers user key = not (bytes_eq key.owner user)
+abbrev pub is_not_the_owner : List ℕ → RelKey → Bool
+is_not_the_owner user key = not (bytes_eq key.owner user)
 
 -- the user is not the owner, or not the administrator, who alone gives permits
-abbrev pub is_none_to_permit : Db → List ℕ → RelKey → Bool
-is_none_to_permit db user key = is_anothers user key || not (bytes_eq db.dba user)
+abbrev pub may_not_grant : Db → List ℕ → RelKey → Bool
+may_not_grant db user key = is_not_the_owner user key || not (bytes_eq db.dba user)
 
 -- some view outside these keys names what has one of them
 abbrev pub is_in_use : Db → List RelKey → Bool
@@ -73,29 +73,29 @@ abbrev pub is_broken : Db → RelKey → Rule → Bool
 is_broken db rel rule = list_any (λ row. not (holds no_aggs rule.qual (row ∷ []))) (rows_at db rel)
 
 -- what has the key can't be changed as a base relation of the user's: it is a catalogue, a view, or another's
-abbrev pub owner_causes : Db → List ℕ → RelKey → List (ℕ × Bool)
-owner_causes db user key = (28, is_catalogue db key) ∷ (26, has_view db key) ∷ (24, is_anothers user key) ∷ []
+abbrev pub owner_refusals : Db → List ℕ → RelKey → List (ℕ × Bool)
+owner_refusals db user key = (28, is_catalogue db key) ∷ (26, has_view db key) ∷ (24, is_not_the_owner user key) ∷ []
 
 -- each cause that refuses a utility, by its number, and whether it is there; in the order in which they count. Of a copy, which is no plan, there is none here
-unfoldable pub plan_causes : Db → List ℕ → Utility → List (ℕ × Bool)
-plan_causes db user (utility.Create rel attrs) = []
-plan_causes db user (utility.Destroy rels) =
-    (28, list_any (is_catalogue db) rels) ∷ (24, list_any (is_anothers user) rels) ∷ (25, is_in_use db rels) ∷ []
-plan_causes db user (utility.Modify rel to keys) = owner_causes db user rel
-plan_causes db user (utility.Index base name keys) = owner_causes db user base
-plan_causes db user (utility.Copy rel columns from file) = []
-plan_causes db user (utility.View rel query) = []
-plan_causes db user (utility.Permit rel permit) =
-    (14, is_past_limit most_permits (permit_numbers db rel)) ∷ (28, is_catalogue db rel) ∷ (26, has_view db rel) ∷ (24, is_none_to_permit db user rel) ∷ []
-plan_causes db user (utility.Rule rel rule) =
+unfoldable pub plan_refusals : Db → List ℕ → Utility → List (ℕ × Bool)
+plan_refusals db user (utility.Create rel attrs) = []
+plan_refusals db user (utility.Destroy rels) =
+    (28, list_any (is_catalogue db) rels) ∷ (24, list_any (is_not_the_owner user) rels) ∷ (25, is_in_use db rels) ∷ []
+plan_refusals db user (utility.Modify rel to keys) = owner_refusals db user rel
+plan_refusals db user (utility.Index base name keys) = owner_refusals db user base
+plan_refusals db user (utility.Copy rel columns from file) = []
+plan_refusals db user (utility.View rel query) = []
+plan_refusals db user (utility.Permit rel permit) =
+    (14, is_past_limit most_permits (permit_numbers db rel)) ∷ (28, is_catalogue db rel) ∷ (26, has_view db rel) ∷ (24, may_not_grant db user rel) ∷ []
+plan_refusals db user (utility.Rule rel rule) =
     (14, is_past_limit most_rules (rule_numbers db rel))
-    ∷ (28, is_catalogue db rel) ∷ (26, has_view db rel) ∷ (24, is_anothers user rel) ∷ (27, is_broken db rel rule) ∷ []
-plan_causes db user (utility.DropPermits rel numbers) =
+    ∷ (28, is_catalogue db rel) ∷ (26, has_view db rel) ∷ (24, is_not_the_owner user rel) ∷ (27, is_broken db rel rule) ∷ []
+plan_refusals db user (utility.DropPermits rel numbers) =
     (28, is_catalogue db rel)
-    ∷ (26, has_view db rel) ∷ (24, is_none_to_permit db user rel) ∷ (19, not (list_all (has_number (permit_numbers db rel)) numbers)) ∷ []
-plan_causes db user (utility.DropRules rel numbers) =
+    ∷ (26, has_view db rel) ∷ (24, may_not_grant db user rel) ∷ (19, not (list_all (has_number (permit_numbers db rel)) numbers)) ∷ []
+plan_refusals db user (utility.DropRules rel numbers) =
     (28, is_catalogue db rel)
-    ∷ (26, has_view db rel) ∷ (24, is_anothers user rel) ∷ (19, not (list_all (has_number (rule_numbers db rel)) numbers)) ∷ []
+    ∷ (26, has_view db rel) ∷ (24, is_not_the_owner user rel) ∷ (19, not (list_all (has_number (rule_numbers db rel)) numbers)) ∷ []
 
 -- ---- the change
 
@@ -126,4 +126,4 @@ plan_change db (utility.DropRules rel numbers) = change.DropRules rel (dropped (
 
 -- the change that a utility makes for the user, or the number of the cause that refuses it
 unfoldable pub planned : Db → List ℕ → Utility → Result DbChange ℕ
-planned db user u = elim (first_cause (plan_causes db user u)) [ None ↦ Ok (plan_change db u) | Some number ↦ Err number ]
+planned db user u = elim (first_refusal (plan_refusals db user u)) [ None ↦ Ok (plan_change db u) | Some number ↦ Err number ]

@@ -21,7 +21,7 @@ use Rattle.calculus.specs.Keys.{key_of}
 use Rattle.calculus.specs.Database.{Db}
 use Rattle.calculus.specs.Catalogue.{relation_key, attribute_key, relation_attrs, attribute_attrs}
 use Rattle.calculus.specs.QueryParts.{targets_of, qual_of}
-use Rattle.calculus.specs.Replacement.{first_cause}
+use Rattle.calculus.specs.Replacement.{first_refusal}
 use Rattle.calculus.specs.Stored.{attrs_in}
 use Rattle.calculus.specs.Tree.{both, either, query}
 use Rattle.quel_meaning.specs.Ranges.{Ranges}
@@ -30,7 +30,7 @@ use Rattle.quel_meaning.specs.Naming.{name_refusal}
 use Rattle.quel_meaning.specs.WrittenQuery.{attr_targets, query_of}
 use Rattle.quel_meaning.specs.Structures.{structure_keys}
 use Rattle.quel_meaning.specs.StatementUpdate.{append_of, replace_of, delete_of, into_of}
-use Rattle.quel_meaning.specs.Causes.{causes, title_place}
+use Rattle.quel_meaning.specs.Causes.{refusals, title_place}
 
 -- ---- queries that are asked
 
@@ -108,5 +108,5 @@ resolved db user ranges stmt =
     let s : Scope = record { db = db; user = user; ranges = ranges } in
     elim (name_refusal s stmt) [
       | Some number ↦ Err number
-      | None ↦ elim (first_cause (causes s stmt)) [ Some number ↦ Err number | None ↦ Ok (tree_of s stmt) ]
+      | None ↦ elim (first_refusal (refusals s stmt)) [ Some number ↦ Err number | None ↦ Ok (tree_of s stmt) ]
     ]

@@ -1,18 +1,16 @@
 //! What a script means: which tree a statement is, what it does, what is printed, and what a session is.
 #![tactic(auto)]
 
+mod checking_laws;
 mod copy_laws;
-mod judging_laws;
 mod laws;
 mod plan_laws;
 mod resolving_laws;
 mod session_laws;
 mod step_laws;
 
+pub use checking_laws::{statements_do_what_they_ask_for, what_is_checked_is_permitted};
 pub use copy_laws::a_copy_is_read_back;
-pub use judging_laws::{
-    statements_do_what_they_are_judged_to_ask_for, what_is_judged_is_permitted,
-};
 pub use laws::{
     a_refusal_changes_nothing, a_shelf_keeps_files, a_table_is_the_answer_in_order,
     range_declares_a_variable, what_asks_changes_nothing,

@@ -16,8 +16,8 @@ ghost use Rattle.calculus.specs.Name.{is_name};
 ghost use Rattle.calculus.specs.Database.{Db};
 ghost use Rattle.quel_meaning.specs.Ranges.{Ranges};
 ghost use Rattle.quel_meaning.specs.Scope.{Scope};
-ghost use Rattle.quel_meaning.specs.Causes.{causes};
-ghost use Rattle.quel_meaning.specs.Purpose.{purpose_of, purpose, cause_numbers};
+ghost use Rattle.quel_meaning.specs.Causes.{refusals};
+ghost use Rattle.quel_meaning.specs.Purpose.{purpose_of, purpose, refusal_numbers};
 ghost use Rattle.quel_meaning.specs.Resolved.{resolved};
 ghost use Rattle.calculus.specs.QueryParts.{vars_of, query_aggregates};
 ghost use Rattle.quel_meaning.specs.WrittenParts.{first_vars, text_aggregates};
@@ -38,9 +38,9 @@ pub fn trees_are_for_what_statements_are_for()
 /// What may refuse a statement, by the numbers and in their order: first a name, which is 10, 11 or 12,
 /// then what the table of the statement's kind has.
 pub fn only_its_numbers_refuse_a_statement()
-    ensures in_order { (s : Scope) (statement : Statement) → map (λ c. c.0) (causes s statement) ≡ cause_numbers statement }
+    ensures in_order { (s : Scope) (statement : Statement) → map (λ c. c.0) (refusals s statement) ≡ refusal_numbers statement }
     ensures no_others { (db : Db) (user : List ℕ) (ranges : Ranges) (statement : Statement) (number : ℕ)
-        → resolved db user ranges statement ≡ Err number → has_number (10 ∷ 11 ∷ 12 ∷ cause_numbers statement) number ≡ true }
+        → resolved db user ranges statement ≡ Err number → has_number (10 ∷ 11 ∷ 12 ∷ refusal_numbers statement) number ≡ true }
 {}
 
 /// The aggregates of a statement's query are as many as those of its text that stand in no other, and
@@ -58,7 +58,7 @@ pub fn what_is_resolved_is_fit()
         → IsDatabase db → is_name user ≡ true → is_written statement ≡ true → resolved db user ranges statement ≡ Ok tree → is_fit_with_views db user tree ≡ true }
 {}
 
-/// A tree that is fit is fit once the views in it are put in. Of the user only the name of an index speaks.
+/// A tree that is fit is fit once the views in it are expanded. Of the user only the name of an index speaks.
 pub fn fit_trees_speak_little_of_views_and_users()
     ensures views { (db : Db) (user : List ℕ) (tree : Checked) → is_fit db user tree ≡ true → is_fit_with_views db user tree ≡ true }
     ensures users { (db : Db) (user other : List ℕ) (tree : Checked) → makes_an_index tree ≡ false → is_fit db user tree ≡ is_fit db other tree }

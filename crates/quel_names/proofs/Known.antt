@@ -3,14 +3,14 @@ use Rattle.std.proofs.Common.{◌≡◌, refl, sym, ap, ◌∙◌, Bool, true, f
 use Rattle.std.specs.List.{find, list_all, flat_map}
 use Rattle.std.specs.Option.{option_map, option_or}
 use Rattle.std.proofs.lemmas.List.Folds.{find-append}
-use Rattle.am_traits.specs.Told.{known_at}
+use Rattle.base_trait.specs.Known.{known_at}
 use Rattle.calculus.specs.declared.query.RelKey.{RelKey}
 use Rattle.calculus.specs.declared.schema.RelInfo.{RelInfo}
 use Rattle.calculus.specs.declared.schema.Spec.{Spec}
 use Rattle.calculus.specs.declared.schema.Spec.TheVariants as spec
 use Rattle.calculus.specs.Catalogue.{catalogue_at, is_catalogue_name, relation_key, attribute_key, relation_info, attribute_info, relation_row, attribute_rows, all_entries}
 use Rattle.calculus.specs.Database.{Db, Relation, View, Index, entries, entry_at, relation_at, view_at, index_at}
-use Rattle.calculus.specs.IsDatabase.{IsDatabase, key_is_named, keys_stand, structure_stands, view_info_stands, index_stands}
+use Rattle.calculus.specs.IsDatabase.{IsDatabase, key_is_named, keys_stand, valid_structure, valid_view_info, valid_index}
 use Rattle.calculus.specs.Keys.{same_key}
 use Rattle.calculus.specs.Lists.{is_any}
 use Rattle.calculus.specs.Name.{is_name}
@@ -45,7 +45,7 @@ entry_parts db key =
 
 -- ---- what is an index
 
-no_structure : (info : RelInfo) → structure_stands info ≡ true → is_index info.spec ≡ false
+no_structure : (info : RelInfo) → valid_structure info ≡ true → is_index info.spec ≡ false
 no_structure info h = go info.spec h
   where
     go : (s : Spec)
@@ -57,7 +57,7 @@ no_structure info h = go info.spec h
     go spec.View k = refl
     go spec.Index k = absurd (cc k)
 
-no_view : (info : RelInfo) → view_info_stands info ≡ true → is_index info.spec ≡ false
+no_view : (info : RelInfo) → valid_view_info info ≡ true → is_index info.spec ≡ false
 no_view info h = go info.spec (left (is_view info.spec) _ h)
   where
     go : (s : Spec) → is_view s ≡ true → is_index s ≡ false
@@ -67,7 +67,7 @@ no_view info h = go info.spec (left (is_view info.spec) _ h)
     go spec.View k = refl
     go spec.Index k = absurd (cc k)
 
-an_index : (db : Db) (x : Index) → index_stands db x ≡ true → is_index x.info.spec ≡ true
+an_index : (db : Db) (x : Index) → valid_index db x ≡ true → is_index x.info.spec ≡ true
 an_index db x h = left (is_index x.info.spec) _ h
 
 kept_if : (info : RelInfo) → is_index info.spec ≡ false → but_index (Some info) ≡ Some info
@@ -174,11 +174,11 @@ ranged_if db is key =
         (option_map (λ (r : Relation). r.info) c))
         ≡ option_or (option_map (λ (r : Relation). r.info) r) (option_or (option_map (λ (v : View). v.info) v) (option_map (λ (r : Relation). r.info) c))
     go (Some r) e v f x g c h =
-        kept_if r.info (no_structure r.info (found_passes (λ (r : Relation). same_key r.info.key key) (λ (r : Relation). structure_stands r.info) db.relations r is.structures_stand e))
+        kept_if r.info (no_structure r.info (found_passes (λ (r : Relation). same_key r.info.key key) (λ (r : Relation). valid_structure r.info) db.relations r is.structures_stand e))
     go None e (Some v) f x g c h =
-        kept_if v.info (no_view v.info (found_passes (λ (v : View). same_key v.info.key key) (λ (v : View). view_info_stands v.info) db.views v is.view_infos_stand f))
+        kept_if v.info (no_view v.info (found_passes (λ (v : View). same_key v.info.key key) (λ (v : View). valid_view_info v.info) db.views v is.view_infos_stand f))
     go None e None f (Some x) g c h =
-        dropped x.info (an_index db x (found_passes (λ (x : Index). same_key x.info.key key) (index_stands db) db.indexes x is.indexes_stand g))
+        dropped x.info (an_index db x (found_passes (λ (x : Index). same_key x.info.key key) (valid_index db) db.indexes x is.indexes_stand g))
         ∙ ap (option_map (λ (r : Relation). r.info)) (sym (no_catalogue db key (plain_name db is key x g)) ∙ h)
     go None e None f None g (Some c) h = kept_if c.info (catalogue_plain db key c h)
     go None e None f None g None h = refl

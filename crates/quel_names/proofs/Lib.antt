@@ -4,5 +4,5 @@ pub mod Inner
 pub mod Known
 pub mod Numbers
 pub mod Overs
-pub mod Telling
+pub mod KnownAs
 pub mod Wholes

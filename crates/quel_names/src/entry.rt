@@ -1,15 +1,15 @@
 //! What refuses a name that `destroy` may name.
 
 ghost use Rattle.std.specs.Prelude.{◌≡◌, ◌||◌, ℕ, List, Some, None, IfOk, is_some, cond};
-ghost use Rattle.am_traits.specs.Causes.{HasCause};
-ghost use Rattle.am_traits.specs.Told.{known_at};
+ghost use Rattle.base_trait.specs.Causes.{HasCause};
+ghost use Rattle.base_trait.specs.Known.{known_at};
 ghost use Rattle.calculus.specs.Database.{Db};
 ghost use Rattle.calculus.specs.Keys.{key_of};
 ghost use Rattle.quel_meaning.specs.Naming.{Entry, mention_refusal};
 ghost use Rattle.quel_meaning.specs.Ranges.{Ranges};
 ghost use Rattle.quel_names.specs.Asking.{scope_of};
 
-use am_traits::{Base, BaseFault};
+use base_trait::{Base, BaseFault};
 use calculus::{Name, OutOfMemory, RelKey};
 use memory::both;
 use std::alloc::Global;
@@ -24,7 +24,7 @@ fn key_of(alloc: Global, owner: &Name, name: &Name) -> Result<RelKey, OutOfMemor
 
 /// Whether anything stands under a key.
 fn is_under<B: Base>(alloc: Global, base: &mut B, key: &RelKey) -> Result<bool, BaseFault>
-    ensures told { (db : Db) → B.schema base.old ≡ Some db → IfOk result (λ b. b ≡ is_some (known_at db key.now)) }
+    ensures known { (db : Db) → B.schema base.old ≡ Some db → IfOk result (λ b. b ≡ is_some (known_at db key.now)) }
     ensures kept { B.database base.new ≡ B.database base.old }
     ensures stays { (s : Db) → B.schema base.old ≡ Some s → B.schema base.new ≡ Some s }
     ensures asked { (b : B) → B.asked b base.old → B.asked b base.new }
@@ -42,7 +42,7 @@ fn is_known<B: Base>(
     owner: &Name,
     name: &Name,
 ) -> Result<bool, BaseFault>
-    ensures told { (db : Db) → B.schema base.old ≡ Some db → IfOk result (λ b. b ≡ is_some (known_at db (key_of owner.now name.now))) }
+    ensures known { (db : Db) → B.schema base.old ≡ Some db → IfOk result (λ b. b ≡ is_some (known_at db (key_of owner.now name.now))) }
     ensures kept { B.database base.new ≡ B.database base.old }
     ensures stays { (s : Db) → B.schema base.old ≡ Some s → B.schema base.new ≡ Some s }
     ensures asked { (b : B) → B.asked b base.old → B.asked b base.new }
@@ -54,7 +54,7 @@ fn is_known<B: Base>(
 
 /// The same of the administrator's key.
 fn is_known_to_all<B: Base>(alloc: Global, base: &mut B, name: &Name) -> Result<bool, BaseFault>
-    ensures told { (db : Db) → B.schema base.old ≡ Some db → IfOk result (λ b. b ≡ is_some (known_at db (key_of db.dba name.now))) }
+    ensures known { (db : Db) → B.schema base.old ≡ Some db → IfOk result (λ b. b ≡ is_some (known_at db (key_of db.dba name.now))) }
     ensures kept { B.database base.new ≡ B.database base.old }
     ensures stays { (s : Db) → B.schema base.old ≡ Some s → B.schema base.new ≡ Some s }
     ensures asked { (b : B) → B.asked b base.old → B.asked b base.new }
@@ -71,7 +71,7 @@ fn is_entry<B: Base>(
     user: &Name,
     name: &Name,
 ) -> Result<bool, BaseFault>
-    ensures told { (db : Db) → B.schema base.old ≡ Some db
+    ensures known { (db : Db) → B.schema base.old ≡ Some db
         → IfOk result (λ b. b ≡ (is_some (known_at db (key_of user.now name.now)) || is_some (known_at db (key_of db.dba name.now)))) }
     ensures kept { B.database base.new ≡ B.database base.old }
     ensures stays { (s : Db) → B.schema base.old ≡ Some s → B.schema base.new ≡ Some s }
@@ -97,7 +97,7 @@ pub(crate) fn entry_refusal<B: Base>(
     user: &Name,
     name: &Name,
 ) -> Result<Option<u8>, BaseFault>
-    ensures told { (db : Db) (ranges : Ranges) → B.schema base.old ≡ Some db
+    ensures known { (db : Db) (ranges : Ranges) → B.schema base.old ≡ Some db
         → IfOk result (λ n. n ≡ mention_refusal (scope_of db user.now ranges) (Entry name.now)) }
     ensures kept { B.database base.new ≡ B.database base.old }
     ensures stays { (s : Db) → B.schema base.old ≡ Some s → B.schema base.new ≡ Some s }

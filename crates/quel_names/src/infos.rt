@@ -1,7 +1,7 @@
 //! What variables range over.
 
 ghost use Rattle.std.specs.Prelude.{◌≡◌, ℕ, List, None, Some, true, option_map, IfOk};
-ghost use Rattle.am_traits.specs.Causes.{HasCause};
+ghost use Rattle.base_trait.specs.Causes.{HasCause};
 ghost use Rattle.calculus.specs.Database.{Db};
 ghost use Rattle.calculus.specs.declared.statement.Statement.{Statement};
 ghost use Rattle.quel_check.specs.Known.{inner_vars};
@@ -12,7 +12,7 @@ ghost use Rattle.quel_names.specs.Asking.{scope_of};
 ghost use Rattle.quel_names.specs.Ranging.{AreOver, each_ranges};
 
 use crate::looking::ranged;
-use am_traits::{Base, BaseFault};
+use base_trait::{Base, BaseFault};
 use calculus::{Name, RelInfo};
 use memory::push;
 use quel_check::RangeTable;
@@ -26,7 +26,7 @@ pub fn infos_of<B: Base>(
     ranges: &RangeTable,
     vars: &[Name],
 ) -> Result<Option<Vec<RelInfo>>, BaseFault>
-    ensures told { (db : Db) (user : List ℕ) → B.schema base.old ≡ Some db
+    ensures known { (db : Db) (user : List ℕ) → B.schema base.old ≡ Some db
         → IfOk result (λ found. AreOver (scope_of db user ranges.now) vars.now (option_map (λ infos. infos.items) found)) }
     ensures kept { B.database base.new ≡ B.database base.old }
     ensures stays { (s : Db) → B.schema base.old ≡ Some s → B.schema base.new ≡ Some s }

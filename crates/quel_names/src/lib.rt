@@ -8,13 +8,13 @@ mod looking;
 mod meant;
 mod mention;
 mod mentioned;
-mod parts;
 mod refusal;
 mod role;
+mod statement_parts;
 mod targets;
 mod text;
 
-pub use am_traits::BaseFault;
+pub use base_trait::BaseFault;
 pub use infos::{
     infos_of, inner_variables_range_where_no_name_refuses, variables_range_where_no_name_refuses,
 };

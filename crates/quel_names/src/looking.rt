@@ -2,7 +2,7 @@
 
 ghost use Rattle.std.specs.Prelude.{◌≡◌, ℕ, Some, IfOk};
 ghost use Rattle.std.specs.Option.{option_and_then};
-ghost use Rattle.am_traits.specs.Causes.{HasCause};
+ghost use Rattle.base_trait.specs.Causes.{HasCause};
 ghost use Rattle.calculus.specs.Database.{Db};
 ghost use Rattle.calculus.specs.Finding.{found};
 ghost use Rattle.calculus.specs.Stored.{info_at};
@@ -10,7 +10,7 @@ ghost use Rattle.calculus.specs.Structures.{is_index};
 ghost use Rattle.quel_meaning.specs.Ranges.{range_of};
 ghost use Rattle.quel_names.specs.Ranging.{but_index};
 
-use am_traits::{Base, BaseFault};
+use base_trait::{Base, BaseFault};
 use calculus::{Name, RelInfo, RelKey, Spec};
 use quel_check::RangeTable;
 use std::alloc::Global;
@@ -22,7 +22,7 @@ pub fn named<B: Base>(
     user: &Name,
     name: &Name,
 ) -> Result<Option<RelInfo>, BaseFault>
-    ensures told { (db : Db) → B.schema base.old ≡ Some db → IfOk result (λ info. info ≡ found db user.now name.now) }
+    ensures known { (db : Db) → B.schema base.old ≡ Some db → IfOk result (λ info. info ≡ found db user.now name.now) }
     ensures kept { B.database base.new ≡ B.database base.old }
     ensures stays { (s : Db) → B.schema base.old ≡ Some s → B.schema base.new ≡ Some s }
     ensures asked { (b : B) → B.asked b base.old → B.asked b base.new }
@@ -65,7 +65,7 @@ pub fn info_at<B: Base>(
     base: &mut B,
     key: &RelKey,
 ) -> Result<Option<RelInfo>, BaseFault>
-    ensures told { (db : Db) → B.schema base.old ≡ Some db → IfOk result (λ info. info ≡ info_at db key.now) }
+    ensures known { (db : Db) → B.schema base.old ≡ Some db → IfOk result (λ info. info ≡ info_at db key.now) }
     ensures kept { B.database base.new ≡ B.database base.old }
     ensures stays { (s : Db) → B.schema base.old ≡ Some s → B.schema base.new ≡ Some s }
     ensures asked { (b : B) → B.asked b base.old → B.asked b base.new }
@@ -83,7 +83,7 @@ pub fn ranged<B: Base>(
     ranges: &RangeTable,
     var: &Name,
 ) -> Result<Option<RelInfo>, BaseFault>
-    ensures told { (db : Db) → B.schema base.old ≡ Some db
+    ensures known { (db : Db) → B.schema base.old ≡ Some db
         → IfOk result (λ info. info ≡ option_and_then (info_at db) (range_of ranges.now var.now)) }
     ensures kept { B.database base.new ≡ B.database base.old }
     ensures stays { (s : Db) → B.schema base.old ≡ Some s → B.schema base.new ≡ Some s }

@@ -1,7 +1,7 @@
 //! What refuses one name.
 
 ghost use Rattle.std.specs.Prelude.{◌≡◌, ℕ, List, Some, None, IfOk};
-ghost use Rattle.am_traits.specs.Causes.{HasCause};
+ghost use Rattle.base_trait.specs.Causes.{HasCause};
 ghost use Rattle.calculus.specs.Database.{Db};
 ghost use Rattle.calculus.specs.Stored.{info_at};
 ghost use Rattle.quel_check.specs.Seen.{seen};
@@ -12,7 +12,7 @@ ghost use Rattle.quel_names.specs.Asking.{scope_of};
 
 use crate::entry::entry_refusal;
 use crate::looking::{info_at, named};
-use am_traits::{Base, BaseFault};
+use base_trait::{Base, BaseFault};
 use calculus::refusals::{NO_ATTRIBUTE, NO_RELATION, NO_VARIABLE};
 use calculus::{Attr, Name, RelInfo, RelKey};
 use quel_check::{Mention, RangeTable};
@@ -56,7 +56,7 @@ fn refusal_under<B: Base>(
     base: &mut B,
     key: &RelKey,
 ) -> Result<Option<u8>, BaseFault>
-    ensures told { (db : Db) → B.schema base.old ≡ Some db → IfOk result (λ n. n ≡ refusal_in no_refusal (info_at db key.now)) }
+    ensures known { (db : Db) → B.schema base.old ≡ Some db → IfOk result (λ n. n ≡ refusal_in no_refusal (info_at db key.now)) }
     ensures kept { B.database base.new ≡ B.database base.old }
     ensures stays { (s : Db) → B.schema base.old ≡ Some s → B.schema base.new ≡ Some s }
     ensures asked { (b : B) → B.asked b base.old → B.asked b base.new }
@@ -72,7 +72,7 @@ fn attr_refusal_under<B: Base>(
     key: &RelKey,
     attr: &Name,
 ) -> Result<Option<u8>, BaseFault>
-    ensures told { (db : Db) → B.schema base.old ≡ Some db → IfOk result (λ n. n ≡ refusal_in (attr_refusal attr.now) (info_at db key.now)) }
+    ensures known { (db : Db) → B.schema base.old ≡ Some db → IfOk result (λ n. n ≡ refusal_in (attr_refusal attr.now) (info_at db key.now)) }
     ensures kept { B.database base.new ≡ B.database base.old }
     ensures stays { (s : Db) → B.schema base.old ≡ Some s → B.schema base.new ≡ Some s }
     ensures asked { (b : B) → B.asked b base.old → B.asked b base.new }
@@ -88,7 +88,7 @@ fn variable_refusal<B: Base>(
     ranges: &RangeTable,
     var: &Name,
 ) -> Result<Option<u8>, BaseFault>
-    ensures told { (db : Db) (user : List ℕ) → B.schema base.old ≡ Some db
+    ensures known { (db : Db) (user : List ℕ) → B.schema base.old ≡ Some db
         → IfOk result (λ n. n ≡ mention_refusal (scope_of db user ranges.now) (Variable var.now)) }
     ensures kept { B.database base.new ≡ B.database base.old }
     ensures stays { (s : Db) → B.schema base.old ≡ Some s → B.schema base.new ≡ Some s }
@@ -108,7 +108,7 @@ fn dotted_refusal<B: Base>(
     var: &Name,
     attr: &Name,
 ) -> Result<Option<u8>, BaseFault>
-    ensures told { (db : Db) (user : List ℕ) → B.schema base.old ≡ Some db
+    ensures known { (db : Db) (user : List ℕ) → B.schema base.old ≡ Some db
         → IfOk result (λ n. n ≡ mention_refusal (scope_of db user ranges.now) (AttrOf var.now attr.now)) }
     ensures kept { B.database base.new ≡ B.database base.old }
     ensures stays { (s : Db) → B.schema base.old ≡ Some s → B.schema base.new ≡ Some s }
@@ -128,7 +128,7 @@ fn relation_refusal<B: Base>(
     user: &Name,
     name: &Name,
 ) -> Result<Option<u8>, BaseFault>
-    ensures told { (db : Db) (ranges : Ranges) → B.schema base.old ≡ Some db
+    ensures known { (db : Db) (ranges : Ranges) → B.schema base.old ≡ Some db
         → IfOk result (λ n. n ≡ mention_refusal (scope_of db user.now ranges) (Relation name.now)) }
     ensures kept { B.database base.new ≡ B.database base.old }
     ensures stays { (s : Db) → B.schema base.old ≡ Some s → B.schema base.new ≡ Some s }
@@ -147,7 +147,7 @@ fn attr_in_refusal<B: Base>(
     name: &Name,
     attr: &Name,
 ) -> Result<Option<u8>, BaseFault>
-    ensures told { (db : Db) (ranges : Ranges) → B.schema base.old ≡ Some db
+    ensures known { (db : Db) (ranges : Ranges) → B.schema base.old ≡ Some db
         → IfOk result (λ n. n ≡ mention_refusal (scope_of db user.now ranges) (AttrIn name.now attr.now)) }
     ensures kept { B.database base.new ≡ B.database base.old }
     ensures stays { (s : Db) → B.schema base.old ≡ Some s → B.schema base.new ≡ Some s }
@@ -167,7 +167,7 @@ pub(crate) fn mention_refusal<B: Base>(
     ranges: &RangeTable,
     mention: &Mention<'_>,
 ) -> Result<Option<u8>, BaseFault>
-    ensures told { (db : Db) → B.schema base.old ≡ Some db
+    ensures known { (db : Db) → B.schema base.old ≡ Some db
         → IfOk result (λ n. n ≡ mention_refusal (scope_of db user.now ranges.now) (seen mention.now)) }
     ensures kept { B.database base.new ≡ B.database base.old }
     ensures stays { (s : Db) → B.schema base.old ≡ Some s → B.schema base.new ≡ Some s }

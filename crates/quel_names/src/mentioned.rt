@@ -1,14 +1,14 @@
 //! The first name that refuses, among mentions.
 
 ghost use Rattle.std.specs.Prelude.{◌≡◌, List, Some, IfOk, map};
-ghost use Rattle.am_traits.specs.Causes.{HasCause};
+ghost use Rattle.base_trait.specs.Causes.{HasCause};
 ghost use Rattle.calculus.specs.Database.{Db};
 ghost use Rattle.quel_check.specs.Seen.{seen};
 ghost use Rattle.quel_meaning.specs.Naming.{Mention as Named, first_number, mention_refusal};
 ghost use Rattle.quel_names.specs.Asking.{scope_of};
 
 use crate::mention::mention_refusal;
-use am_traits::{Base, BaseFault};
+use base_trait::{Base, BaseFault};
 use calculus::{Name, OutOfMemory};
 use quel_check::{Mention, RangeTable};
 use std::alloc::Global;
@@ -22,7 +22,7 @@ pub(crate) fn first_refusal<B: Base>(
     ranges: &RangeTable,
     mentions: &[Mention<'_>],
 ) -> Result<Option<u8>, BaseFault>
-    ensures told { (db : Db) → B.schema base.old ≡ Some db
+    ensures known { (db : Db) → B.schema base.old ≡ Some db
         → IfOk result (λ n. n ≡ first_number (map (mention_refusal (scope_of db user.now ranges.now)) (map seen mentions.now))) }
     ensures kept { B.database base.new ≡ B.database base.old }
     ensures stays { (s : Db) → B.schema base.old ≡ Some s → B.schema base.new ≡ Some s }
@@ -46,7 +46,7 @@ pub(crate) fn refusal_of<B: Base>(
     ranges: &RangeTable,
     mentions: Result<Vec<Mention<'_>>, OutOfMemory>,
 ) -> Result<Option<u8>, BaseFault>
-    ensures told { (db : Db) (names : List Named) → B.schema base.old ≡ Some db
+    ensures known { (db : Db) (names : List Named) → B.schema base.old ≡ Some db
         → IfOk mentions.entry (λ found. map seen found.items ≡ names)
         → IfOk result (λ n. n ≡ first_number (map (mention_refusal (scope_of db user.now ranges.now)) names)) }
     ensures kept { B.database base.new ≡ B.database base.old }

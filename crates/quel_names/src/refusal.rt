@@ -1,7 +1,7 @@
 //! Which name refuses a statement.
 
 ghost use Rattle.std.specs.Prelude.{◌≡◌, Some, IfOk, map};
-ghost use Rattle.am_traits.specs.Causes.{HasCause};
+ghost use Rattle.base_trait.specs.Causes.{HasCause};
 ghost use Rattle.calculus.specs.Database.{Db};
 ghost use Rattle.quel_meaning.specs.Naming.{first_number, mention_refusal, name_refusal, query_mentions};
 ghost use Rattle.quel_meaning.specs.WrittenParts.{items_of, where_of};
@@ -10,9 +10,9 @@ ghost use Rattle.quel_names.specs.Parts.{head, title_in};
 
 use crate::head::head;
 use crate::mentioned::refusal_of;
-use crate::parts::{items_of, titles_of, where_of};
+use crate::statement_parts::{items_of, titles_of, where_of};
 use crate::text::query_refusal;
-use am_traits::{Base, BaseFault};
+use base_trait::{Base, BaseFault};
 use calculus::{Name, Statement};
 use quel_check::RangeTable;
 use std::alloc::Global;
@@ -25,7 +25,7 @@ fn head_refusal<B: Base>(
     ranges: &RangeTable,
     s: &Statement,
 ) -> Result<Option<u8>, BaseFault>
-    ensures told { (db : Db) → B.schema base.old ≡ Some db
+    ensures known { (db : Db) → B.schema base.old ≡ Some db
         → IfOk result (λ n. n ≡ first_number (map (mention_refusal (scope_of db user.now ranges.now)) (head s.now))) }
     ensures kept { B.database base.new ≡ B.database base.old }
     ensures stays { (s : Db) → B.schema base.old ≡ Some s → B.schema base.new ≡ Some s }
@@ -43,7 +43,7 @@ fn tail_refusal<B: Base>(
     ranges: &RangeTable,
     s: &Statement,
 ) -> Result<Option<u8>, BaseFault>
-    ensures told { (db : Db) → B.schema base.old ≡ Some db
+    ensures known { (db : Db) → B.schema base.old ≡ Some db
         → IfOk result (λ n. n ≡ first_number (map (mention_refusal (scope_of db user.now ranges.now))
         (query_mentions (scope_of db user.now ranges.now) (title_in s.now) (items_of s.now) (where_of s.now)))) }
     ensures kept { B.database base.new ≡ B.database base.old }
@@ -66,7 +66,7 @@ pub fn name_refusal<B: Base>(
     ranges: &RangeTable,
     base: &mut B,
 ) -> Result<Option<u8>, BaseFault>
-    ensures told { (db : Db) → B.schema base.old ≡ Some db
+    ensures known { (db : Db) → B.schema base.old ≡ Some db
         → IfOk result (λ n. n ≡ name_refusal (scope_of db user.now ranges.now) s.now) }
     ensures kept { B.database base.new ≡ B.database base.old }
     ensures stays { (s : Db) → B.schema base.old ≡ Some s → B.schema base.new ≡ Some s }

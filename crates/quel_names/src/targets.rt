@@ -1,7 +1,7 @@
 //! What refuses a target list.
 
 ghost use Rattle.std.specs.Prelude.{◌≡◌, ◌++◌, Some, IfOk, flat_map, map};
-ghost use Rattle.am_traits.specs.Causes.{HasCause};
+ghost use Rattle.base_trait.specs.Causes.{HasCause};
 ghost use Rattle.calculus.specs.Database.{Db};
 ghost use Rattle.calculus.specs.declared.statement.Item.TheVariants.{All};
 ghost use Rattle.quel_meaning.specs.Naming.{dotted, first_number, item_mentions, mention_refusal};
@@ -14,7 +14,7 @@ use crate::meant::{meant, titled_by_itself, titles};
 use crate::mention::mention_refusal;
 use crate::mentioned::refusal_of;
 use crate::role::Role;
-use am_traits::{Base, BaseFault};
+use base_trait::{Base, BaseFault};
 use calculus::{Attr, Item, Name, Term};
 use quel_check::{Mention, RangeTable, mentions_in_term};
 use std::alloc::Global;
@@ -29,7 +29,7 @@ fn set_refusal<B: Base>(
     name: &Name,
     term: &Term,
 ) -> Result<Option<u8>, BaseFault>
-    ensures told { (db : Db) → B.schema base.old ≡ Some db
+    ensures known { (db : Db) → B.schema base.old ≡ Some db
         → IfOk result (λ n. n ≡ first_number (map (mention_refusal (scope_of db user.now ranges.now)) (meant_by role.now name.now ++ dotted (attributes term.now)))) }
     ensures kept { B.database base.new ≡ B.database base.old }
     ensures stays { (s : Db) → B.schema base.old ≡ Some s → B.schema base.new ≡ Some s }
@@ -52,7 +52,7 @@ fn titles_refusal<B: Base>(
     role: &Role<'_>,
     attrs: &[Attr],
 ) -> Result<Option<u8>, BaseFault>
-    ensures told { (db : Db) → B.schema base.old ≡ Some db
+    ensures known { (db : Db) → B.schema base.old ≡ Some db
         → IfOk result (λ n. n ≡ first_number (map (mention_refusal (scope_of db user.now ranges.now)) (flat_map (λ a. meant_by role.now a.name) attrs.now))) }
     ensures kept { B.database base.new ≡ B.database base.old }
     ensures stays { (s : Db) → B.schema base.old ≡ Some s → B.schema base.new ≡ Some s }
@@ -72,7 +72,7 @@ fn all_refusal<B: Base>(
     role: &Role<'_>,
     var: &Name,
 ) -> Result<Option<u8>, BaseFault>
-    ensures told { (db : Db) → B.schema base.old ≡ Some db
+    ensures known { (db : Db) → B.schema base.old ≡ Some db
         → IfOk result (λ n. n ≡ first_number (map (mention_refusal (scope_of db user.now ranges.now)) (item_mentions (scope_of db user.now ranges.now) (meant_by role.now) (All var.now)))) }
     ensures kept { B.database base.new ≡ B.database base.old }
     ensures stays { (s : Db) → B.schema base.old ≡ Some s → B.schema base.new ≡ Some s }
@@ -98,7 +98,7 @@ pub(crate) fn item_refusal<B: Base>(
     role: &Role<'_>,
     item: &Item,
 ) -> Result<Option<u8>, BaseFault>
-    ensures told { (db : Db) → B.schema base.old ≡ Some db
+    ensures known { (db : Db) → B.schema base.old ≡ Some db
         → IfOk result (λ n. n ≡ first_number (map (mention_refusal (scope_of db user.now ranges.now)) (item_mentions (scope_of db user.now ranges.now) (meant_by role.now) item.now))) }
     ensures kept { B.database base.new ≡ B.database base.old }
     ensures stays { (s : Db) → B.schema base.old ≡ Some s → B.schema base.new ≡ Some s }

@@ -1,7 +1,7 @@
 //! What refuses a target list with its qualification.
 
 ghost use Rattle.std.specs.Prelude.{◌≡◌, ◌++◌, Some, IfOk, flat_map, map, option_map, unwrap_or};
-ghost use Rattle.am_traits.specs.Causes.{HasCause};
+ghost use Rattle.base_trait.specs.Causes.{HasCause};
 ghost use Rattle.calculus.specs.Database.{Db};
 ghost use Rattle.calculus.specs.declared.statement.Qual.TheVariants.{True};
 ghost use Rattle.quel_meaning.specs.Naming.{dotted, first_number, item_mentions, mention_refusal, query_mentions};
@@ -12,7 +12,7 @@ ghost use Rattle.quel_names.specs.Roles.{meant_by};
 use crate::mentioned::refusal_of;
 use crate::role::Role;
 use crate::targets::item_refusal;
-use am_traits::{Base, BaseFault};
+use base_trait::{Base, BaseFault};
 use calculus::{Item, Name, Qual};
 use quel_check::{RangeTable, mentions_in_qual};
 use std::alloc::Global;
@@ -26,7 +26,7 @@ fn items_refusal<B: Base>(
     role: &Role<'_>,
     items: &[Item],
 ) -> Result<Option<u8>, BaseFault>
-    ensures told { (db : Db) → B.schema base.old ≡ Some db
+    ensures known { (db : Db) → B.schema base.old ≡ Some db
         → IfOk result (λ n. n ≡ first_number (map (mention_refusal (scope_of db user.now ranges.now)) (flat_map (item_mentions (scope_of db user.now ranges.now) (meant_by role.now)) items.now))) }
     ensures kept { B.database base.new ≡ B.database base.old }
     ensures stays { (s : Db) → B.schema base.old ≡ Some s → B.schema base.new ≡ Some s }
@@ -50,7 +50,7 @@ fn qual_refusal<B: Base>(
     ranges: &RangeTable,
     qual: Option<&Qual>,
 ) -> Result<Option<u8>, BaseFault>
-    ensures told { (db : Db) → B.schema base.old ≡ Some db
+    ensures known { (db : Db) → B.schema base.old ≡ Some db
         → IfOk result (λ n. n ≡ first_number (map (mention_refusal (scope_of db user.now ranges.now)) (dotted (attributes_in_qual (unwrap_or (option_map (λ q. q.now) qual.entry) True))))) }
     ensures kept { B.database base.new ≡ B.database base.old }
     ensures stays { (s : Db) → B.schema base.old ≡ Some s → B.schema base.new ≡ Some s }
@@ -73,7 +73,7 @@ pub(crate) fn query_refusal<B: Base>(
     items: &[Item],
     qual: Option<&Qual>,
 ) -> Result<Option<u8>, BaseFault>
-    ensures told { (db : Db) → B.schema base.old ≡ Some db
+    ensures known { (db : Db) → B.schema base.old ≡ Some db
         → IfOk result (λ n. n ≡ first_number (map (mention_refusal (scope_of db user.now ranges.now))
         (query_mentions (scope_of db user.now ranges.now) (meant_by role.now) items.now (unwrap_or (option_map (λ q. q.now) qual.entry) True)))) }
     ensures kept { B.database base.new ≡ B.database base.old }

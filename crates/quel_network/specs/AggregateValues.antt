@@ -15,7 +15,7 @@ use Rattle.calculus.specs.declared.value.Value.TheVariants.{Int, Text}
 use Rattle.calculus.specs.Aggregate.{source_rows, agree, folded_rows, arguments, different, total, any_of, first_or, last_or, fold_values, source_kinds, none_value, fold_arguments, fold_linked, aggregates}
 use Rattle.calculus.specs.Chars.{is_chars}
 use Rattle.calculus.specs.Database.{Db}
-use Rattle.calculus.specs.IsDatabase.{IsDatabase, query_stands}
+use Rattle.calculus.specs.IsDatabase.{IsDatabase, valid_query}
 use Rattle.calculus.specs.Kinds.{is_number_kind, kind_of, is_text_kind, kinds_fit}
 use Rattle.calculus.specs.Number.{has_64_bits}
 use Rattle.calculus.specs.QueryParts.{vars_of}
@@ -117,11 +117,11 @@ source_suits : (db : Db) (who : Who) (attrs : List ℕ) (source : AggSource) →
 unfolding source_fits
 source_suits db who attrs (Named key) is spelled fit = kept_suit db who key attrs is fit
 source_suits db who attrs (rows_of_query q) is spelled fit =
-    let w = and_parts (list_all (is_kept db) (vars_of q)) (nat_le (length (vars_of q)) 1 && (has_few_targets q && query_stands db q)) fit in
-    let v = and_parts (nat_le (length (vars_of q)) 1) (has_few_targets q && query_stands db q) w.1 in
+    let w = and_parts (list_all (is_kept db) (vars_of q)) (nat_le (length (vars_of q)) 1 && (has_few_targets q && valid_query db q)) fit in
+    let v = and_parts (nat_le (length (vars_of q)) 1) (has_few_targets q && valid_query db q) w.1 in
     alone_rows_suit db (rows_of db who) q (leb-true (length (vars_of q)) 1 v.0)
     (each_to (λ key. is_kept db key ≡ true) (SourceSuits db (rows_of db who)) (λ key h attrs. kept_suit db who key attrs is h) (vars_of q) (each_passes (is_kept db) (vars_of q) w.0))
-    spelled (and_parts (has_few_targets q) (query_stands db q) v.1).1
+    spelled (and_parts (has_few_targets q) (valid_query db q) v.1).1
 
 -- ---- the arguments
 

@@ -14,12 +14,12 @@ use Rattle.calculus.specs.Database.{Db, Relation, View, relation_at, view_at}
 use Rattle.calculus.specs.IsDatabase.{IsDatabase}
 use Rattle.calculus.specs.Keys.{same_key}
 use Rattle.calculus.specs.Limits.{most_rows}
-use Rattle.calculus.specs.Replacement.{first_cause}
+use Rattle.calculus.specs.Replacement.{first_refusal}
 use Rattle.calculus.specs.Rows.{Row}
 use Rattle.calculus.specs.Stored.{Kept, Viewed, range_at, kept_rows, rows_at, kinds_at}
 use Rattle.fault_io.specs.Files.{Files, fetched}
 use Rattle.quel_meaning.specs.Copying.{refusal, bad_row, most_file_bytes, numbered_from, records, record_values, record_row, record_bytes, rows_in_file, rows_appended, file_appended, copied_from, file_of_rows, copied_into, file_of_constant}
-use Rattle.quel_meaning.specs.Planned.{has_view, is_anothers, owner_causes}
+use Rattle.quel_meaning.specs.Planned.{has_view, is_not_the_owner, owner_refusals}
 use Rattle.quel_meaning.proofs.DatabaseFacts.{found_passes}
 use Rattle.quel_network.specs.RefusalLaws.{HasSpelling, numbered_has, bad_row_has, cause_known}
 
@@ -100,14 +100,14 @@ few_rows db key is none =
 -- ---- copies
 
 -- a copy is refused because of its relation, as another utility is
-owner_refusal : (db : Db) (user : List ℕ) (rel : RelKey) (n : ℕ) → first_cause (owner_causes db user rel) ≡ Some n → HasSpelling (refusal n)
-owner_refusal db user rel n e = numbered_has n (cause_known (owner_causes db user rel) n refl e)
+owner_refusal : (db : Db) (user : List ℕ) (rel : RelKey) (n : ℕ) → first_refusal (owner_refusals db user rel) ≡ Some n → HasSpelling (refusal n)
+owner_refusal db user rel n e = numbered_has n (cause_known (owner_refusals db user rel) n refl e)
 
 -- where nothing is said against the relation, it is no catalogue
-owner_catalogue : (db : Db) (user : List ℕ) (rel : RelKey) → first_cause (owner_causes db user rel) ≡ None → is_catalogue db rel ≡ false
+owner_catalogue : (db : Db) (user : List ℕ) (rel : RelKey) → first_refusal (owner_refusals db user rel) ≡ None → is_catalogue db rel ≡ false
 owner_catalogue db user rel e = go (is_catalogue db rel) e
   where
-    go : (b : Bool) → first_cause ((28, b) ∷ (26, has_view db rel) ∷ (24, is_anothers user rel) ∷ []) ≡ None → b ≡ false
+    go : (b : Bool) → first_refusal ((28, b) ∷ (26, has_view db rel) ∷ (24, is_not_the_owner user rel) ∷ []) ≡ None → b ≡ false
     go true e = absurd (cc e)
     go false e = refl
 
@@ -142,9 +142,9 @@ file_has db rel columns (Some bytes) r e = sized (nat_lt most_file_bytes (length
 pub copied_from_has : (db : Db) (shelf : Files) (user : List ℕ) (rel : RelKey) (columns : List CopyCol) (constant : List ℕ) (r : Refusal)
     → copied_from db shelf user rel columns constant ≡ Err r → HasSpelling r
 unfolding copied_from
-copied_from_has db shelf user rel columns constant r e = go (first_cause (owner_causes db user rel)) refl e
+copied_from_has db shelf user rel columns constant r e = go (first_refusal (owner_refusals db user rel)) refl e
   where
-    go : (o : Option ℕ) → first_cause (owner_causes db user rel) ≡ o
+    go : (o : Option ℕ) → first_refusal (owner_refusals db user rel) ≡ o
         → ◌≡◌ {A = Result DbChange Refusal} (elim o [ Some number ↦ Err (refusal number) | None ↦ file_appended db rel columns (fetched shelf (file_of_constant constant)) ]) (Err r)
         → HasSpelling r
     go (Some n) f e = let same : refusal n ≡ r = cc e in subst HasSpelling same (owner_refusal db user rel n f)
@@ -153,7 +153,7 @@ copied_from_has db shelf user rel columns constant r e = go (first_cause (owner_
 -- what refuses a copy into a file has a spelling
 pub copied_into_has : (db : Db) (user : List ℕ) (rel : RelKey) (columns : List CopyCol) (r : Refusal) → IsDatabase db → copied_into db user rel columns ≡ Err r → HasSpelling r
 unfolding copied_into
-copied_into_has db user rel columns r is e = go (first_cause (owner_causes db user rel)) refl e
+copied_into_has db user rel columns r is e = go (first_refusal (owner_refusals db user rel)) refl e
   where
     wrote : length (rows_at db rel) ≤ most_rows → (bytes : Result (List ℕ) ℕ) → file_of_rows columns (rows_at db rel) ≡ bytes
         → ◌≡◌ {A = Result (List ℕ) Refusal} (elim bytes [ Ok bytes ↦ Ok bytes | Err row ↦ Err (bad_row row) ]) (Err r) → HasSpelling r
@@ -163,7 +163,7 @@ copied_into_has db user rel columns r is e = go (first_cause (owner_causes db us
         let among = bad_row_among columns (rows_at db rel) row f in
         subst HasSpelling same (bad_row_has row (omega (arith, few, among)))
 
-    go : (o : Option ℕ) → first_cause (owner_causes db user rel) ≡ o
+    go : (o : Option ℕ) → first_refusal (owner_refusals db user rel) ≡ o
         → ◌≡◌ {A = Result (List ℕ) Refusal} (elim o [
           | Some number ↦ Err (refusal number)
           | None ↦ elim (file_of_rows columns (rows_at db rel)) [ Ok bytes ↦ Ok bytes | Err row ↦ Err (bad_row row) ]

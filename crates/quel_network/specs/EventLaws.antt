@@ -10,20 +10,20 @@ use Rattle.quel_network.specs.Session.{finished}
 use Rattle.quel_network.specs.Sorts.{quel_sorts}
 
 -- bytes, and the statements that ran
-abbrev pub Told : Type 0
-Told = List ℕ × List (Finished quel_sorts)
+abbrev pub Trace : Type 0
+Trace = List ℕ × List (Finished quel_sorts)
 
 -- what events tell
-abbrev pub told : List Event → Told
-told events = (printed events, finished events)
+abbrev pub trace : List Event → Trace
+trace events = (printed events, finished events)
 
 -- a statement that ran
 abbrev pub finished_with : List ℕ → Db → List ℕ → Finished quel_sorts
 finished_with reply db later = record { reply = reply; db = db; later = later }
 
--- what is told of one part of a session, and then of the next
-abbrev pub told_both : Told → Told → Told
-told_both t u = (t.0 ++ u.0, followed_by {S = quel_sorts} u.0 t.1 ++ u.1)
+-- what is known of one part of a session, and then of the next
+abbrev pub trace_both : Trace → Trace → Trace
+trace_both t u = (t.0 ++ u.0, followed_by {S = quel_sorts} u.0 t.1 ++ u.1)
 
 finished_append : (es fs : List Event) → finished (es ++ fs) ≡ followed_by {S = quel_sorts} (printed fs) (finished es) ++ finished fs
 finished_append [] fs = refl
@@ -33,15 +33,15 @@ finished_append (Ran reply db ∷ es) fs =
     ∙ ap (λ (x : List (Finished quel_sorts)). finished_with reply db (printed es ++ printed fs) ∷ x) (finished_append es fs)
 
 -- what two lists of events tell
-pub told_append : (es fs : List Event) → told (es ++ fs) ≡ told_both (told es) (told fs)
-told_append es fs = λ i. (printed_append es fs i, finished_append es fs i)
+pub trace_append : (es fs : List Event) → trace (es ++ fs) ≡ trace_both (trace es) (trace fs)
+trace_append es fs = λ i. (printed_append es fs i, finished_append es fs i)
 
--- what is told where these bytes are printed before
-abbrev pub told_behind : List ℕ → Told → Told
-told_behind bytes t = (bytes ++ t.0, t.1)
+-- what is known where these bytes are printed before
+abbrev pub trace_behind : List ℕ → Trace → Trace
+trace_behind bytes t = (bytes ++ t.0, t.1)
 
 -- bytes in two pieces, or in one
-pub wrote_twice : (a b : List ℕ) (t : Told) → told_behind a (told_behind b t) ≡ told_behind (a ++ b) t
+pub wrote_twice : (a b : List ℕ) (t : Trace) → trace_behind a (trace_behind b t) ≡ trace_behind (a ++ b) t
 wrote_twice a b t = λ i. (sym (append_assoc a b t.0) i, t.1)
 
 -- where the replies of statements stand in some bytes, they stand in these behind others

@@ -18,11 +18,11 @@ use Rattle.calculus.specs.declared.statement.Statement.TheVariants.{Range}
 use Rattle.calculus.specs.Finding.{found}
 use Rattle.calculus.specs.Replacement.{updated}
 use Rattle.calculus.specs.Rows.{Row}
-use Rattle.calculus.specs.Who.{Who, Asks}
+use Rattle.calculus.specs.Who.{Who, AsUser}
 use Rattle.network_meaning.specs.Sorts.{Meaning, Meaning.names, Meaning.objects, Meaning.runs}
 use Rattle.network_meaning.specs.Language.{lines_of as row_lines, tables_bytes, reply_bytes as outcome_bytes, db_after, shelf_after}
 use Rattle.quel_meaning.specs.Copying.{copied_from, copied_into, file_of_constant, refusal}
-use Rattle.quel_meaning.specs.Meaning.{Effect, change_effect, numbered_effect, file_effect, answer_reply, copy_effect, utility_effect, tree_meaning, ruled_tree, judged, range_outcome, with_ranges, judged_outcome, meaning, meaning_by, unchanged}
+use Rattle.quel_meaning.specs.Meaning.{Effect, change_effect, numbered_effect, file_effect, answer_reply, copy_effect, utility_effect, tree_meaning, ruled_tree, checked_tree, range_outcome, with_ranges, checked_outcome, meaning, meaning_by, unchanged}
 use Rattle.quel_meaning.specs.Planned.{planned}
 use Rattle.quel_meaning.specs.Printed.{head_bytes, row_line, rule_bytes, table_bytes, refusal_bytes, reply_bytes}
 use Rattle.quel_meaning.specs.Running.{at_line}
@@ -30,7 +30,7 @@ use Rattle.quel_meaning.specs.State.{State, Outcome}
 use Rattle.quel_meaning.specs.Tables.{table_of, some_query_lacks}
 use Rattle.quel_network.specs.Quel.{quel}
 use Rattle.quel_network.specs.Sorts.{User, quel_sorts}
-use Rattle.quel_network.specs.Trees.{sent_table, outcome_of_effect, range_meaning, judged_meaning, meaning_of}
+use Rattle.quel_network.specs.Trees.{sent_table, outcome_of_effect, range_meaning, checked_meaning, meaning_of}
 
 -- what a statement leaves, and what it prints
 abbrev pub Left : Type 0
@@ -123,15 +123,15 @@ unfolding reply_bytes
 matches_range user line state var None = refl
 matches_range user line state var (Some info) = refl
 
-matches_judged : (user : User) (line : ℕ) (state : State) (tree : Result Checked ℕ)
-    → left_by line (judged_outcome state user.asker tree) ≡ left_of user line state (judged_meaning user.asker state.db state.shelf tree)
+matches_checked : (user : User) (line : ℕ) (state : State) (tree : Result Checked ℕ)
+    → left_by line (checked_outcome state user.asker tree) ≡ left_of user line state (checked_meaning user.asker state.db state.shelf tree)
 unfolding reply_bytes
-matches_judged user line state (Err number) = refl
-matches_judged user line state (Ok tree) = matches_tree user line state (Asks user.asker) (ruled_tree state.db tree)
+matches_checked user line state (Err number) = refl
+matches_checked user line state (Ok tree) = matches_tree user line state (AsUser user.asker) (ruled_tree state.db tree)
 
 -- a statement leaves and prints what it means for the stages
 pub matches_statement : (user : User) (line : ℕ) (state : State) (s : Statement)
     → left_by line (meaning state user.asker s) ≡ left_of user line state (meaning_of user.asker state.db state.shelf state.ranges s)
 unfolding meaning_by meaning_of
 matches_statement user line state (Range var rel) = matches_range user line state var (found state.db user.asker.user rel)
-matches_statement user line state s = matches_judged user line state (judged state.db user.asker state.ranges s)
+matches_statement user line state s = matches_checked user line state (checked_tree state.db user.asker state.ranges s)

@@ -9,7 +9,7 @@ use Rattle.calculus.specs.declared.query.Target.{Target}
 use Rattle.calculus.specs.declared.value.Kind.{Kind}
 use Rattle.calculus.specs.Assignments.{Source, choices, rows_used, variable_rows, assigned}
 use Rattle.calculus.specs.Database.{Db}
-use Rattle.calculus.specs.IsDatabase.{has_kind, var_kinds, query_stands}
+use Rattle.calculus.specs.IsDatabase.{has_kind, var_kinds, valid_query}
 use Rattle.calculus.specs.Kinds.{kind_of, kinds_fit}
 use Rattle.calculus.specs.QueryParts.{vars_of, targets_of, qual_of, term_aggregates}
 use Rattle.calculus.specs.Rows.{Row}
@@ -100,7 +100,7 @@ none_in_targets db vars e [] = tt
 none_in_targets db vars e (t ∷ ts) = (none_give db vars e (term_aggregates t.term), none_in_targets db vars e ts)
 
 -- the targets of a query without aggregates are of their kinds
-alone_stand : (db : Db) (q : Query) → IsTrue (query_is_spelled q) → query_stands db q ≡ true → Each (TargetStands db (var_kinds db q)) (targets_of q)
+alone_stand : (db : Db) (q : Query) → IsTrue (query_is_spelled q) → valid_query db q ≡ true → Each (TargetStands db (var_kinds db q)) (targets_of q)
 alone_stand db q spelled stands =
     both_hold (λ t. has_kind (kind_of t.term (var_kinds db q)) t.kind ≡ true) (λ t. IsTrue (term_is_spelled t.term)) (TargetStands db (var_kinds db q))
     (λ t h s. record { kind = has_too db t.term (var_kinds db q) t.kind h; spelled = s }) (targets_of q)
@@ -117,7 +117,7 @@ given_few aggs q es =
     omega (arith, set, given, passed)
 
 -- the rows of a query of at most one variable in which no aggregate stands
-pub alone_rows_suit : (db : Db) (source : Source) (q : Query) → length (vars_of q) ≤ 1 → Each (SourceSuits db source) (vars_of q) → IsTrue (query_is_spelled q) → query_stands db q ≡ true
+pub alone_rows_suit : (db : Db) (source : Source) (q : Query) → length (vars_of q) ≤ 1 → Each (SourceSuits db source) (vars_of q) → IsTrue (query_is_spelled q) → valid_query db q ≡ true
     → FewSuit (target_kinds (targets_of q)) (rows_given no_aggs q (assigned source q))
 alone_rows_suit db source q one h spelled stands =
     let shorter = given_few no_aggs q (assigned source q) in

@@ -5,7 +5,7 @@ use Rattle.std.proofs.Common.{refl, ap, subst, ◌∙◌, arith}
 use Rattle.std.proofs.lemmas.Bool.{eqb-true, eq-eqb, ltb-true}
 use Rattle.calculus.specs.declared.reply.Refusal.{Refusal}
 use Rattle.calculus.specs.Lists.{has_number}
-use Rattle.calculus.specs.Replacement.{first_cause}
+use Rattle.calculus.specs.Replacement.{first_refusal}
 use Rattle.quel_meaning.specs.Copying.{refusal, bad_row}
 use Rattle.quel_meaning.specs.Printed.{refusal_texts}
 use Rattle.quel_meaning.proofs.Each.{left, right}
@@ -49,29 +49,29 @@ lined_has line r h s = record { known = s.known; fits = (s.fits.0, (below_number
 -- ---- causes
 
 -- the first cause that is there is one of the causes
-cause_listed : (cs : List (ℕ × Bool)) (n : ℕ) → first_cause cs ≡ Some n → has_number (map (λ c. c.0) cs) n ≡ true
-cause_listed [] n e = absurd (cc e)
-cause_listed (c ∷ cs) n e = go (cause_listed cs n) c.1 e
+refusal_listed : (cs : List (ℕ × Bool)) (n : ℕ) → first_refusal cs ≡ Some n → has_number (map (λ c. c.0) cs) n ≡ true
+refusal_listed [] n e = absurd (cc e)
+refusal_listed (c ∷ cs) n e = go (refusal_listed cs n) c.1 e
   where
     later_on : (b d : Bool) → d ≡ true → (b || d) ≡ true
     later_on true d h = refl
     later_on false d h = h
 
-    go : (first_cause cs ≡ Some n → has_number (map (λ c. c.0) cs) n ≡ true) → (b : Bool)
-        → ◌≡◌ {A = Option ℕ} (elim b [ true ↦ Some c.0 | false ↦ first_cause cs ]) (Some n) → (nat_eq c.0 n || has_number (map (λ c. c.0) cs) n) ≡ true
+    go : (first_refusal cs ≡ Some n → has_number (map (λ c. c.0) cs) n ≡ true) → (b : Bool)
+        → ◌≡◌ {A = Option ℕ} (elim b [ true ↦ Some c.0 | false ↦ first_refusal cs ]) (Some n) → (nat_eq c.0 n || has_number (map (λ c. c.0) cs) n) ≡ true
     go later true e = ap (λ b. b || has_number (map (λ c. c.0) cs) n) (eq-eqb c.0 n (cc e))
     go later false e = later_on (nat_eq c.0 n) _ (later e)
 
 -- the first of causes with numbers of refusals has one
-pub cause_known : (cs : List (ℕ × Bool)) (n : ℕ) → list_all is_refusal_number (map (λ c. c.0) cs) ≡ true → first_cause cs ≡ Some n → is_refusal_number n ≡ true
-cause_known cs n all e = one_passes is_refusal_number (map (λ c. c.0) cs) n all (cause_listed cs n e)
+pub cause_known : (cs : List (ℕ × Bool)) (n : ℕ) → list_all is_refusal_number (map (λ c. c.0) cs) ≡ true → first_refusal cs ≡ Some n → is_refusal_number n ≡ true
+cause_known cs n all e = one_passes is_refusal_number (map (λ c. c.0) cs) n all (refusal_listed cs n e)
 
 -- what is refused by the first of such causes alone is refused by such a number
 pub caused_known : {A : Type 0} (cs : List (ℕ × Bool)) (a : A) (n : ℕ) → list_all is_refusal_number (map (λ c. c.0) cs) ≡ true
-    → ◌≡◌ {A = Result A ℕ} (elim (first_cause cs) [ None ↦ Ok a | Some number ↦ Err number ]) (Err n) → is_refusal_number n ≡ true
-caused_known {A = A} cs a n all e = go (first_cause cs) refl e
+    → ◌≡◌ {A = Result A ℕ} (elim (first_refusal cs) [ None ↦ Ok a | Some number ↦ Err number ]) (Err n) → is_refusal_number n ≡ true
+caused_known {A = A} cs a n all e = go (first_refusal cs) refl e
   where
-    go : (o : Option ℕ) → first_cause cs ≡ o → ◌≡◌ {A = Result A ℕ} (elim o [ None ↦ Ok a | Some number ↦ Err number ]) (Err n) → is_refusal_number n ≡ true
+    go : (o : Option ℕ) → first_refusal cs ≡ o → ◌≡◌ {A = Result A ℕ} (elim o [ None ↦ Ok a | Some number ↦ Err number ]) (Err n) → is_refusal_number n ≡ true
     go None f e = absurd (cc e)
     go (Some m) f e = let same : m ≡ n = cc e in subst (λ x. is_refusal_number x ≡ true) same (cause_known cs m all f)
 

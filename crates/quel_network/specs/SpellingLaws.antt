@@ -9,7 +9,7 @@ use Rattle.calculus.specs.declared.statement.Statement.{Statement}
 use Rattle.calculus.specs.Database.{Db}
 use Rattle.calculus.specs.Rows.{Row}
 use Rattle.fault_io.specs.Files.{Files}
-use Rattle.quel_grammar.specs.Next.{Next as Read, Nothing, Read as WasRead, Syntax, first_place, line_at}
+use Rattle.quel_grammar.specs.Next.{Next as Read, Nothing, Read as WasRead, Syntax, first_offset, line_at}
 use Rattle.quel_meaning.specs.Ranges.{Ranges}
 use Rattle.quel_tree.specs.ChangeLaws.{change_exact}
 use Rattle.quel_tree.specs.Changes.{change as change_codec}
@@ -109,8 +109,8 @@ syntax_spelled_law user b r e = refused_spelled_law user r (bad_has b (user.read
 found_below : (b : Batch) (next : Read) (s : Statement) (line : ℕ) (later : Batch) → next_of b next ≡ read_next s line later → line < 4294967296
 found_below b Nothing s line later e = absurd (cc e)
 found_below b (WasRead one behind) s line later e =
-    let same : line_at b.text (first_place b.text b.from) ≡ line = cc e in
-    subst (λ n. n < 4294967296) same (line_below b.text (first_place b.text b.from))
+    let same : line_at b.text (first_offset b.text b.from) ≡ line = cc e in
+    subst (λ n. n < 4294967296) same (line_below b.text (first_offset b.text b.from))
 found_below b (Syntax place) s line later e = absurd (cc e)
 
 is_line_below : (user : User) (line : ℕ) → IsLine (quel user) line → line < 4294967296

@@ -20,7 +20,7 @@ use Rattle.calculus.specs.QueryParts.{targets_of}
 use Rattle.calculus.specs.Replacement.{updated}
 use Rattle.calculus.specs.Rows.{Row}
 use Rattle.calculus.specs.Spelled.{query_is_spelled}
-use Rattle.calculus.specs.Who.{Free, Asker}
+use Rattle.calculus.specs.Who.{Unrestricted, Asker}
 use Rattle.fault_io.specs.Files.{Files}
 use Rattle.quel_meaning.specs.Copying.{copied_from, copied_into, file_of_constant, refusal}
 use Rattle.quel_meaning.specs.Fit.{suits, fits}
@@ -104,11 +104,11 @@ answer_spelled : (asked : List Asked) → (checked_codec most_tree_levels).Fits 
 unfolding checked_codec list
 answer_spelled asked h = each_item (asked_codec most_tree_levels) (length asked) asked h.1
 
-answer_stands : (asker : Asker) (asked : List Asked) (db : Db) → IsFitTree asker (checked.Answer asked) db → Each (λ a. TableStands (sent_table (table_of db Free a))) asked
+answer_stands : (asker : Asker) (asked : List Asked) (db : Db) → IsFitTree asker (checked.Answer asked) db → Each (λ a. TableStands (sent_table (table_of db Unrestricted a))) asked
 unfolding fits tree_is_spelled suits
 answer_stands asker asked db fit =
-    both_hold (λ a. asked_fits (kept_alone db) db a ≡ true × query_is_spelled a.query ≡ true) (asked_codec most_tree_levels).Fits (λ a. TableStands (sent_table (table_of db Free a)))
-    (λ a h f. asked_stands most_tree_levels db Free a fit.database h.0 h.1 f) asked
+    both_hold (λ a. asked_fits (kept_alone db) db a ≡ true × query_is_spelled a.query ≡ true) (asked_codec most_tree_levels).Fits (λ a. TableStands (sent_table (table_of db Unrestricted a)))
+    (λ a h f. asked_stands most_tree_levels db Unrestricted a fit.database h.0 h.1 f) asked
     (both_hold (λ a. asked_fits (kept_alone db) db a ≡ true) (λ a. query_is_spelled a.query ≡ true) (λ a. asked_fits (kept_alone db) db a ≡ true × query_is_spelled a.query ≡ true)
     (λ a f s. (f, s)) asked (each_passes (asked_fits (kept_alone db) db) asked parts.1) (each_passes (λ a. query_is_spelled a.query) asked parts.0)) (answer_spelled asked fit.spelled)
   where
@@ -118,38 +118,38 @@ answer_stands asker asked db fit =
 -- the tables of a fit tree stand
 pub tables_stand : (asker : Asker) (t : Checked) (db : Db) (shelf : Files) (ts : List (Table quel_sorts)) → IsFitTree asker t db → outcome_of_tree asker t db shelf ≡ tables ts → Each TableStands ts
 unfolding outcome_of_tree tree_meaning
-tables_stand asker (checked.Answer asked) db shelf ts fit e = go (some_query_lacks db Free asked) e
+tables_stand asker (checked.Answer asked) db shelf ts fit e = go (some_query_lacks db Unrestricted asked) e
   where
-    all : Each TableStands (map sent_table (map (table_of db Free) asked))
-    all = in_map TableStands sent_table (map (table_of db Free) asked) (in_map (λ t. TableStands (sent_table t)) (table_of db Free) asked (answer_stands asker asked db fit))
+    all : Each TableStands (map sent_table (map (table_of db Unrestricted) asked))
+    all = in_map TableStands sent_table (map (table_of db Unrestricted) asked) (in_map (λ t. TableStands (sent_table t)) (table_of db Unrestricted) asked (answer_stands asker asked db fit))
 
-    go : (b : Bool) → outcome_by db shelf (elim b as (λ b. Reply) [ true ↦ reply.Refused (refusal 20) | false ↦ reply.Tables (map (table_of db Free) asked) ]) ≡ tables ts → Each TableStands ts
+    go : (b : Bool) → outcome_by db shelf (elim b as (λ b. Reply) [ true ↦ reply.Refused (refusal 20) | false ↦ reply.Tables (map (table_of db Unrestricted) asked) ]) ≡ tables ts → Each TableStands ts
     go true e = absurd (cc e)
-    go false e = let same : map sent_table (map (table_of db Free) asked) ≡ ts = cc e in subst (Each TableStands) same all
+    go false e = let same : map sent_table (map (table_of db Unrestricted) asked) ≡ ts = cc e in subst (Each TableStands) same all
 tables_stand asker (checked.Update u) db shelf ts fit e =
-    let effect = numbered_effect db shelf (updated db Free u) in
-    absurd (no_tables effect.db effect.shelf effect.reply ts (numbered_shows_none db shelf (updated db Free u)) e)
+    let effect = numbered_effect db shelf (updated db Unrestricted u) in
+    absurd (no_tables effect.db effect.shelf effect.reply ts (numbered_shows_none db shelf (updated db Unrestricted u)) e)
 tables_stand asker (checked.Utility work) db shelf ts fit e =
     let effect = utility_effect db shelf asker.user work in
     absurd (no_tables effect.db effect.shelf effect.reply ts (utility_shows_none db shelf asker.user work) e)
 
 -- ---- the heads are those of the tree
 
-heads_are : (db : Db) (asked : List Asked) → tops {S = quel_sorts} (map sent_table (map (table_of db Free) asked)) ≡ map (λ a. map column_of (targets_of a.query)) asked
+heads_are : (db : Db) (asked : List Asked) → tops {S = quel_sorts} (map sent_table (map (table_of db Unrestricted) asked)) ≡ map (λ a. map column_of (targets_of a.query)) asked
 unfolding table_of
 heads_are db [] = refl
 heads_are db (a ∷ asked) = ap (λ (hs : List (List Column)). map column_of (targets_of a.query) ∷ hs) (heads_are db asked)
 
 tree_heads : (asker : Asker) (t : Checked) (db : Db) (shelf : Files) (ts : List (Table quel_sorts)) → outcome_of_tree asker t db shelf ≡ tables ts → tops ts ≡ heads_of_tree t
 unfolding outcome_of_tree tree_meaning
-tree_heads asker (checked.Answer asked) db shelf ts e = go (some_query_lacks db Free asked) e
+tree_heads asker (checked.Answer asked) db shelf ts e = go (some_query_lacks db Unrestricted asked) e
   where
-    go : (b : Bool) → outcome_by db shelf (elim b as (λ b. Reply) [ true ↦ reply.Refused (refusal 20) | false ↦ reply.Tables (map (table_of db Free) asked) ]) ≡ tables ts → tops ts ≡ map (λ a. map column_of (targets_of a.query)) asked
+    go : (b : Bool) → outcome_by db shelf (elim b as (λ b. Reply) [ true ↦ reply.Refused (refusal 20) | false ↦ reply.Tables (map (table_of db Unrestricted) asked) ]) ≡ tables ts → tops ts ≡ map (λ a. map column_of (targets_of a.query)) asked
     go true e = absurd (cc e)
-    go false e = let same : map sent_table (map (table_of db Free) asked) ≡ ts = cc e in subst (λ (x : List (Table quel_sorts)). tops x ≡ map (λ a. map column_of (targets_of a.query)) asked) same (heads_are db asked)
+    go false e = let same : map sent_table (map (table_of db Unrestricted) asked) ≡ ts = cc e in subst (λ (x : List (Table quel_sorts)). tops x ≡ map (λ a. map column_of (targets_of a.query)) asked) same (heads_are db asked)
 tree_heads asker (checked.Update u) db shelf ts e =
-    let effect = numbered_effect db shelf (updated db Free u) in
-    absurd (no_tables effect.db effect.shelf effect.reply ts (numbered_shows_none db shelf (updated db Free u)) e)
+    let effect = numbered_effect db shelf (updated db Unrestricted u) in
+    absurd (no_tables effect.db effect.shelf effect.reply ts (numbered_shows_none db shelf (updated db Unrestricted u)) e)
 tree_heads asker (checked.Utility work) db shelf ts e =
     let effect = utility_effect db shelf asker.user work in
     absurd (no_tables effect.db effect.shelf effect.reply ts (utility_shows_none db shelf asker.user work) e)

@@ -5,7 +5,7 @@ use Rattle.std.proofs.Common.{refl, subst, ◌∙◌, arith}
 use Rattle.std.proofs.lemmas.Bool.{and_parts, and_from, leb-true, le-leb, eqb-true, ne_eqb}
 use Rattle.std.proofs.lemmas.Fmt.{decimal_by_steps, length-decimal-le}
 use Rattle.std.proofs.lemmas.List.Folds.{list_all-append}
-use Rattle.calculus.specs.declared.mark.Mark.{Mark}
+use Rattle.calculus.specs.declared.unescaped.Unescaped.{Unescaped}
 use Rattle.calculus.specs.declared.schema.Spec.{Spec}
 use Rattle.calculus.specs.declared.schema.Spec.TheVariants.{Heap, Hash, Isam, View, Index}
 use Rattle.calculus.specs.declared.value.Domain.TheVariants.{I1, I2, I4, C}
@@ -14,7 +14,7 @@ use Rattle.calculus.specs.declared.value.Kind.TheVariants.{Of, Wide}
 use Rattle.calculus.specs.declared.value.Value.TheVariants.{Text}
 use Rattle.calculus.specs.Catalogue.{format_text}
 use Rattle.calculus.specs.Chars.{is_printable, is_chars}
-use Rattle.calculus.specs.Constant.{mark, marks_behind, marks, plain_bytes, constant_text}
+use Rattle.calculus.specs.Constant.{unescaped_byte, unescaped_behind, unescaped, plain_bytes, constant_text}
 use Rattle.calculus.specs.IsDatabase.{is_kind, value_fits}
 use Rattle.calculus.specs.Name.{is_name, is_name_byte, starts_name}
 use Rattle.calculus.specs.Structures.{spec_text}
@@ -46,29 +46,29 @@ text_has bs h =
 -- ---- constants
 
 -- the bytes that are meant are among those that are written
-meant : (taken : Bool) (bs : List ℕ) → IsTrue (list_all is_printable bs) → IsTrue (list_all is_printable (plain_bytes (marks_behind taken bs)))
+meant : (taken : Bool) (bs : List ℕ) → IsTrue (list_all is_printable bs) → IsTrue (list_all is_printable (plain_bytes (unescaped_behind taken bs)))
 meant true [] h = refl
 meant false [] h = refl
 meant true (b ∷ bs) h =
     let p = and_parts (is_printable b) (list_all is_printable bs) h in
-    and_from (is_printable b) (list_all is_printable (plain_bytes (marks_behind false bs))) p.0 (meant false bs p.1)
+    and_from (is_printable b) (list_all is_printable (plain_bytes (unescaped_behind false bs))) p.0 (meant false bs p.1)
 meant false (b ∷ bs) h =
     let p = and_parts (is_printable b) (list_all is_printable bs) h in
     go (b == 92) p.0 (meant true bs p.1) (meant false bs p.1)
   where
-    go : (c : Bool) → IsTrue (is_printable b) → IsTrue (list_all is_printable (plain_bytes (marks_behind true bs))) → IsTrue (list_all is_printable (plain_bytes (marks_behind false bs)))
-        → IsTrue (list_all is_printable (plain_bytes (elim c as (λ c. List Mark) [ true ↦ marks_behind true bs | false ↦ mark b false ∷ marks_behind false bs ])))
+    go : (c : Bool) → IsTrue (is_printable b) → IsTrue (list_all is_printable (plain_bytes (unescaped_behind true bs))) → IsTrue (list_all is_printable (plain_bytes (unescaped_behind false bs)))
+        → IsTrue (list_all is_printable (plain_bytes (elim c as (λ c. List Unescaped) [ true ↦ unescaped_behind true bs | false ↦ unescaped_byte b false ∷ unescaped_behind false bs ])))
     go true p taken plain = taken
-    go false p taken plain = and_from (is_printable b) (list_all is_printable (plain_bytes (marks_behind false bs))) p plain
+    go false p taken plain = and_from (is_printable b) (list_all is_printable (plain_bytes (unescaped_behind false bs))) p plain
 
 chars_printable : (bytes : List ℕ) → IsTrue (is_chars bytes) → IsTrue (list_all is_printable bytes)
 unfolding is_chars
 chars_printable bytes h = (and_parts (nat_le (length bytes) 255) (list_all is_printable bytes) h).1
 
 meant_text : (bytes : List ℕ) → IsTrue (list_all is_printable bytes) → length (constant_text bytes) ≤ 255 → IsTrue (is_text (constant_text bytes))
-unfolding constant_text marks
+unfolding constant_text unescaped
 meant_text bytes h few =
-    trimmed_text (plain_bytes (marks_behind false bytes)) (meant false bytes h) (le-leb (length (trimmed (plain_bytes (marks_behind false bytes)))) 255 few)
+    trimmed_text (plain_bytes (unescaped_behind false bytes)) (meant false bytes h) (le-leb (length (trimmed (plain_bytes (unescaped_behind false bytes)))) 255 few)
 
 pub constant_is_text : (bytes : List ℕ) → IsTrue (is_chars bytes) → IsTrue (is_text (constant_text bytes))
 constant_is_text bytes h = meant_text bytes (chars_printable bytes h) (constant_short bytes h)

@@ -86,7 +86,7 @@ row_bounded : Bounded row
 unfolding row
 row_bounded = list16_bounded value value_bounded
 
--- ---- what is told of relations
+-- ---- what is known of relations
 
 spec_bounded : Bounded spec
 unfolding spec

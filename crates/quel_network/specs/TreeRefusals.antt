@@ -21,19 +21,19 @@ use Rattle.calculus.specs.Database.{Db}
 use Rattle.calculus.specs.Finding.{found}
 use Rattle.calculus.specs.IsDatabase.{IsDatabase}
 use Rattle.calculus.specs.Replacement.{update_refusals, updated}
-use Rattle.calculus.specs.Who.{Who, Free, Asker, Asks}
+use Rattle.calculus.specs.Who.{Who, Unrestricted, Asker, AsUser}
 use Rattle.fault_io.specs.Files.{Files}
 use Rattle.quel_meaning.specs.Copying.{refusal, copied_from, copied_into, file_of_constant}
-use Rattle.quel_meaning.specs.Meaning.{change_effect, numbered_effect, file_effect, answer_reply, copy_effect, utility_effect, tree_meaning, checked_permitted, permitted_tree, judged_tree, judged_by, judged}
-use Rattle.quel_meaning.specs.Planned.{plan_causes, planned}
-use Rattle.quel_meaning.specs.Purpose.{cause_numbers}
+use Rattle.quel_meaning.specs.Meaning.{change_effect, numbered_effect, file_effect, answer_reply, copy_effect, utility_effect, tree_meaning, checked_permitted, permitted_tree, tree_if_permitted, checked_tree_by, checked_tree}
+use Rattle.quel_meaning.specs.Planned.{plan_refusals, planned}
+use Rattle.quel_meaning.specs.Purpose.{refusal_numbers}
 use Rattle.quel_meaning.specs.Ranges.{Ranges}
 use Rattle.quel_meaning.specs.Resolved.{resolved}
 use Rattle.quel_meaning.specs.Tables.{table_of, some_query_lacks}
 use Rattle.quel_meaning.proofs.Accepted.{refused_by}
 use Rattle.network_meaning.specs.Sorts.{Meaning.objects, Outcome.refuses}
 use Rattle.quel_network.specs.Spelling.{is_refusal_number}
-use Rattle.quel_network.specs.Trees.{outcome_by, outcome_of_tree, range_meaning, judged_meaning, meaning_of}
+use Rattle.quel_network.specs.Trees.{outcome_by, outcome_of_tree, range_meaning, checked_meaning, meaning_of}
 use Rattle.quel_network.specs.RefusalLaws.{HasSpelling, one_passes, numbered_has, caused_known}
 use Rattle.quel_network.specs.CopyRefusals.{copied_from_has, copied_into_has}
 
@@ -73,8 +73,8 @@ updated_known : (db : Db) (who : Who) (u : Update) (n : ℕ) → updated db who 
 unfolding updated
 updated_known db who u n e = caused_known (update_refusals db who u) _ n refl e
 
-plan_numbers_known : (db : Db) (user : List ℕ) (u : Utility) → list_all is_refusal_number (map (λ c. c.0) (plan_causes db user u)) ≡ true
-unfolding plan_causes
+plan_numbers_known : (db : Db) (user : List ℕ) (u : Utility) → list_all is_refusal_number (map (λ c. c.0) (plan_refusals db user u)) ≡ true
+unfolding plan_refusals
 plan_numbers_known db user (utility.Create rel attrs) = refl
 plan_numbers_known db user (utility.Destroy rels) = refl
 plan_numbers_known db user (utility.Modify rel to keys) = refl
@@ -89,7 +89,7 @@ plan_numbers_known db user (utility.DropRules rel numbers) = refl
 -- each number that may refuse a utility is one of a refusal
 planned_known : (db : Db) (user : List ℕ) (u : Utility) (n : ℕ) → planned db user u ≡ Err n → is_refusal_number n ≡ true
 unfolding planned
-planned_known db user u n e = caused_known (plan_causes db user u) _ n (plan_numbers_known db user u) e
+planned_known db user u n e = caused_known (plan_refusals db user u) _ n (plan_numbers_known db user u) e
 
 planned_has : (db : Db) (shelf : Files) (user : List ℕ) (u : Utility) (r : Refusal) → (numbered_effect db shelf (planned db user u)).reply ≡ reply.Refused r → HasSpelling r
 planned_has db shelf user u r e = numbered_effect_has db shelf (planned db user u) r (planned_known db user u) e
@@ -117,13 +117,13 @@ refused_reply db shelf (reply.Tables ts) r e = absurd (cc e)
 pub outcome_has : (asker : Asker) (tree : Checked) (db : Db) (shelf : Files) (r : Refusal) → IsDatabase db → outcome_of_tree asker tree db shelf ≡ refuses r → HasSpelling r
 unfolding outcome_of_tree
 outcome_has asker tree db shelf r is e =
-    let effect = tree_meaning db shelf Free asker.user tree in
-    tree_has db shelf Free asker.user tree r is (refused_reply effect.db effect.shelf effect.reply r e)
+    let effect = tree_meaning db shelf Unrestricted asker.user tree in
+    tree_has db shelf Unrestricted asker.user tree r is (refused_reply effect.db effect.shelf effect.reply r e)
 
 -- ---- statements
 
-numbers_known : (s : Statement) → list_all is_refusal_number (10 ∷ 11 ∷ 12 ∷ cause_numbers s) ≡ true
-unfolding cause_numbers
+numbers_known : (s : Statement) → list_all is_refusal_number (10 ∷ 11 ∷ 12 ∷ refusal_numbers s) ≡ true
+unfolding refusal_numbers
 numbers_known (statement.Range var rel) = refl
 numbers_known (statement.Retrieve None items qual sort) = refl
 numbers_known (statement.Retrieve (Some name) items qual sort) = refl
@@ -144,34 +144,34 @@ numbers_known (statement.Permit ops var attrs user qual) = refl
 numbers_known (statement.Rule var qual) = refl
 
 -- each number that may refuse a statement before its tree is handed on is one of a refusal
-judged_known : (db : Db) (asker : Asker) (ranges : Ranges) (s : Statement) (n : ℕ) → judged db asker ranges s ≡ Err n → is_refusal_number n ≡ true
-unfolding judged_by
-judged_known db asker ranges s n e = go (resolved db asker.user ranges s) refl e
+checked_known : (db : Db) (asker : Asker) (ranges : Ranges) (s : Statement) (n : ℕ) → checked_tree db asker ranges s ≡ Err n → is_refusal_number n ≡ true
+unfolding checked_tree_by
+checked_known db asker ranges s n e = go (resolved db asker.user ranges s) refl e
   where
     lacks : (tree : Checked) (permitted : Bool) → permitted_tree permitted tree ≡ Err n → is_refusal_number n ≡ true
     lacks tree true k = absurd (cc k)
     lacks tree false k = let same : 23 ≡ n = cc k in subst (λ m. is_refusal_number m ≡ true) same refl
 
-    go : (r : Result Checked ℕ) → resolved db asker.user ranges s ≡ r → judged_tree db asker r ≡ Err n → is_refusal_number n ≡ true
+    go : (r : Result Checked ℕ) → resolved db asker.user ranges s ≡ r → tree_if_permitted db asker r ≡ Err n → is_refusal_number n ≡ true
     go (Err m) f k =
         let same : m ≡ n = cc k in
-        subst (λ x. is_refusal_number x ≡ true) same (one_passes is_refusal_number (10 ∷ 11 ∷ 12 ∷ cause_numbers s) m (numbers_known s) (refused_by db asker.user ranges s m f))
-    go (Ok tree) f k = lacks tree (checked_permitted db (Asks asker) tree) k
+        subst (λ x. is_refusal_number x ≡ true) same (one_passes is_refusal_number (10 ∷ 11 ∷ 12 ∷ refusal_numbers s) m (numbers_known s) (refused_by db asker.user ranges s m f))
+    go (Ok tree) f k = lacks tree (checked_permitted db (AsUser asker) tree) k
 
 range_has : (ranges : Ranges) (var : List ℕ) (info : Option RelInfo) (r : Refusal) → range_meaning ranges var info ≡ objects r → HasSpelling r
 range_has ranges var None r e = let same : refusal 10 ≡ r = cc e in subst HasSpelling same (numbered_has 10 refl)
 range_has ranges var (Some info) r e = absurd (cc e)
 
-judged_has : (asker : Asker) (db : Db) (shelf : Files) (tree : Result Checked ℕ) (r : Refusal) → ((n : ℕ) → tree ≡ Err n → is_refusal_number n ≡ true)
-    → judged_meaning asker db shelf tree ≡ objects r → HasSpelling r
-judged_has asker db shelf (Err n) r known e = let same : refusal n ≡ r = cc e in subst HasSpelling same (numbered_has n (known n refl))
-judged_has asker db shelf (Ok tree) r known e = absurd (cc e)
+checked_has : (asker : Asker) (db : Db) (shelf : Files) (tree : Result Checked ℕ) (r : Refusal) → ((n : ℕ) → tree ≡ Err n → is_refusal_number n ≡ true)
+    → checked_meaning asker db shelf tree ≡ objects r → HasSpelling r
+checked_has asker db shelf (Err n) r known e = let same : refusal n ≡ r = cc e in subst HasSpelling same (numbered_has n (known n refl))
+checked_has asker db shelf (Ok tree) r known e = absurd (cc e)
 
-judging_has : (asker : Asker) (db : Db) (shelf : Files) (ranges : Ranges) (s : Statement) (r : Refusal) → judged_meaning asker db shelf (judged db asker ranges s) ≡ objects r → HasSpelling r
-judging_has asker db shelf ranges s r e = judged_has asker db shelf (judged db asker ranges s) r (judged_known db asker ranges s) e
+checking_has : (asker : Asker) (db : Db) (shelf : Files) (ranges : Ranges) (s : Statement) (r : Refusal) → checked_meaning asker db shelf (checked_tree db asker ranges s) ≡ objects r → HasSpelling r
+checking_has asker db shelf ranges s r e = checked_has asker db shelf (checked_tree db asker ranges s) r (checked_known db asker ranges s) e
 
 -- what stage 2 refuses a statement by has a spelling
 pub objection_has : (asker : Asker) (db : Db) (shelf : Files) (ranges : Ranges) (s : Statement) (r : Refusal) → meaning_of asker db shelf ranges s ≡ objects r → HasSpelling r
 unfolding meaning_of
 objection_has asker db shelf ranges (statement.Range var rel) r e = range_has ranges var (found db asker.user rel) r e
-objection_has asker db shelf ranges s r e = judging_has asker db shelf ranges s r e
+objection_has asker db shelf ranges s r e = checking_has asker db shelf ranges s r e

@@ -15,7 +15,7 @@ use Rattle.calculus.specs.Database.{Db}
 use Rattle.calculus.specs.Finding.{found}
 use Rattle.calculus.specs.IsDatabase.{IsDatabase}
 use Rattle.calculus.specs.QueryParts.{targets_of}
-use Rattle.calculus.specs.Who.{Free, Asker, Asks}
+use Rattle.calculus.specs.Who.{Unrestricted, Asker, AsUser}
 use Rattle.fault_io.specs.Files.{Files}
 use Rattle.network_meaning.specs.Sorts.{Table, Outcome, Meaning, Next, Kind}
 use Rattle.network_meaning.specs.Sorts.{Outcome.tables, Outcome.made, Outcome.refuses, Meaning.names, Meaning.objects, Meaning.runs, Next.no_more, Next.bad, Next.found as read_next, Kind.answer, Kind.update, Kind.utility}
@@ -23,7 +23,7 @@ use Rattle.quel_grammar.specs.Next.{Next as Read, Nothing, Read as WasRead, Synt
 use Rattle.quel_meaning.specs.Batch.{statement_at}
 use Rattle.quel_meaning.specs.Copying.{refusal}
 use Rattle.quel_meaning.specs.Fit.{is_fit}
-use Rattle.quel_meaning.specs.Meaning.{Effect, tree_meaning, ruled_tree, judged}
+use Rattle.quel_meaning.specs.Meaning.{Effect, tree_meaning, ruled_tree, checked_tree}
 use Rattle.quel_meaning.specs.Ranges.{Ranges, declared}
 use Rattle.quel_meaning.specs.Tables.{column_of}
 use Rattle.quel_tree.specs.Changes.{change}
@@ -48,9 +48,9 @@ outcome_by db shelf (reply.Tables ts) = tables (map sent_table ts)
 abbrev pub outcome_of_effect : Effect → Outcome quel_sorts
 outcome_of_effect e = outcome_by e.db e.shelf e.reply
 
--- what a tree comes to that nobody in particular asks for; the utilities work for the user
+-- what a tree comes to that whoever is unrestricted asks for; the utilities work for the user
 unfoldable pub outcome_of_tree : Asker → Checked → Db → Files → Outcome quel_sorts
-outcome_of_tree asker tree db shelf = outcome_of_effect (tree_meaning db shelf Free asker.user tree)
+outcome_of_tree asker tree db shelf = outcome_of_effect (tree_meaning db shelf Unrestricted asker.user tree)
 
 -- what a tree asks for
 abbrev pub kind_of_tree : Checked → Kind
@@ -71,15 +71,15 @@ abbrev pub range_meaning : Ranges → List ℕ → Option RelInfo → Meaning qu
 range_meaning ranges var None = objects (refusal 10)
 range_meaning ranges var (Some info) = names (declared ranges var info.key)
 
--- what a judged tree comes to for the one who asks, with the rules of the relation that it changes; or the number that refuses the statement
-abbrev pub judged_meaning : Asker → Db → Files → Result Checked ℕ → Meaning quel_sorts
-judged_meaning asker db shelf (Err number) = objects (refusal number)
-judged_meaning asker db shelf (Ok tree) = runs (outcome_of_effect (tree_meaning db shelf (Asks asker) asker.user (ruled_tree db tree)))
+-- what a checked tree comes to for the one who asks, with the rules of the relation that it changes; or the number that refuses the statement
+abbrev pub checked_meaning : Asker → Db → Files → Result Checked ℕ → Meaning quel_sorts
+checked_meaning asker db shelf (Err number) = objects (refusal number)
+checked_meaning asker db shelf (Ok tree) = runs (outcome_of_effect (tree_meaning db shelf (AsUser asker) asker.user (ruled_tree db tree)))
 
 -- what a statement means for the one who asks
 unfoldable pub meaning_of : Asker → Db → Files → Ranges → Statement → Meaning quel_sorts
 meaning_of asker db shelf ranges (Range var rel) = range_meaning ranges var (found db asker.user rel)
-meaning_of asker db shelf ranges s = judged_meaning asker db shelf (judged db asker ranges s)
+meaning_of asker db shelf ranges s = checked_meaning asker db shelf (checked_tree db asker ranges s)
 
 -- ---- batches
 

@@ -11,7 +11,7 @@ use Rattle.quel_grammar.specs.NextReader.{next_at}
 use Rattle.quel_grammar.proofs.Answered.{reads}
 use Rattle.quel_grammar.proofs.OneReading.{one_longest, one_next}
 use Rattle.quel_parse.specs.Laws.{IsUsed}
-use Rattle.quel_parse.proofs.Told.{first_past_within}
+use Rattle.quel_parse.proofs.FirstTokens.{first_past_within}
 
 -- the tokens of these
 abbrev named : List Placed → List Token

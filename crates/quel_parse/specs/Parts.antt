@@ -13,8 +13,8 @@ use Rattle.quel_grammar.specs.StatementReaders.{Defined as What, Verb as Said}
 use Rattle.quel_grammar.specs.StatementReaders.Defined.{DefinedView, DefinedPermit, DefinedRule}
 use Rattle.quel_grammar.specs.StatementReaders.Verb.{RangeVerb, RetrieveVerb, AppendVerb, ReplaceVerb, DeleteVerb, CreateVerb, DestroyVerb, ModifyVerb, IndexVerb, PrintVerb, HelpVerb, CopyVerb, DefineVerb}
 use Rattle.quel_grammar.specs.TermReaders.{Lower}
-use Rattle.quel_parse.specs.declared.changes.Change.{Change}
-use Rattle.quel_parse.specs.declared.changes.Change.TheVariants as changes
+use Rattle.quel_parse.specs.declared.target_statements.Change.{Change}
+use Rattle.quel_parse.specs.declared.target_statements.Change.TheVariants as changes
 use Rattle.quel_parse.specs.declared.relations.Dropped.{Dropped}
 use Rattle.quel_parse.specs.declared.relations.Dropped.TheVariants as drops
 use Rattle.quel_parse.specs.declared.defining.Defined.{Defined}

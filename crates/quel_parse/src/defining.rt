@@ -8,11 +8,11 @@ ghost use Rattle.quel_grammar.specs.TermReaders.{level};
 ghost use Rattle.quel_parse.specs.Parts.{defined_of as what_of, granted_by};
 ghost use Rattle.quel_terms.specs.View.{Gives};
 
-use crate::changes::{Change, changed_by};
 use crate::lists::list_at;
 use crate::names::covered_by;
 use crate::permits::{joined, over_at, user_at};
 use crate::stated::boxed;
+use crate::target_statements::{Change, changed_by};
 use crate::targets::where_by;
 use calculus::{Boxed, List, Name, OutOfMemory, Qual, Statement};
 use quel_grammar::{Fixed, Token};

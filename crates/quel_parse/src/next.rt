@@ -155,7 +155,7 @@ fn when<T: Drop>(sure: bool, value: T) -> Option<T>
 
 /// What is read of the text from a place on, told from its first tokens; `None` where they don't
 /// tell.
-fn told(
+fn decided(
     alloc: Global,
     text: &[u8],
     from: usize,
@@ -180,13 +180,13 @@ fn told(
 fn read_next(alloc: Global, text: &[u8], from: usize) -> Result<Next<Boxed<Statement>>, OutOfMemory>
     ensures { IfOk result (λ next. seen next ≡ next_at text.now from) }
 {
-    if let Some(next) = told(alloc, text, from, ENOUGH, true)? {
+    if let Some(next) = decided(alloc, text, from, ENOUGH, true)? {
         return Ok(next);
     }
-    if let Some(next) = told(alloc, text, from, SOME, false)? {
+    if let Some(next) = decided(alloc, text, from, SOME, false)? {
         return Ok(next);
     }
-    match told(alloc, text, from, ENOUGH, false)? {
+    match decided(alloc, text, from, ENOUGH, false)? {
         Some(next) => Ok(next),
         None => Ok(Next::Nothing),
     }

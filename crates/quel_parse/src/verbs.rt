@@ -7,11 +7,11 @@ ghost use Rattle.quel_grammar.specs.TermReaders.{level};
 ghost use Rattle.quel_parse.specs.Parts.{verb_of as said_of};
 ghost use Rattle.quel_terms.specs.View.{Gives};
 
-use crate::changes::{Change, append_by, changed_by, delete_by, retrieve_by};
 use crate::defining::define_by;
 use crate::relations::{
     copy_by, create_by, destroy_by, help_at, index_by, modify_by, print_by, range_at,
 };
+use crate::target_statements::{Change, append_by, changed_by, delete_by, retrieve_by};
 use calculus::{Boxed, Statement};
 use quel_grammar::{Fixed, Token};
 use quel_terms::{Halt, Read};

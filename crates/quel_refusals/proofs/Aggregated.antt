@@ -12,7 +12,7 @@ use Rattle.calculus.specs.Sizes.{measure_of, measure_within}
 use Rattle.calculus.specs.Stored.{info_at}
 use Rattle.quel_check.specs.Known.{front}
 use Rattle.quel_check.proofs.AggregateForms.{any_joined}
-use Rattle.quel_meaning.specs.Aggregates.{aggregate_stands, aggregates_stand, holds_another, is_one_plain, keeps_a_text}
+use Rattle.quel_meaning.specs.Aggregates.{aggregate_allowed, aggregates_allowed, holds_another, is_one_plain, keeps_a_text}
 use Rattle.quel_meaning.specs.Naming.{name_refusal}
 use Rattle.quel_meaning.specs.Ranges.{Ranges, range_of}
 use Rattle.quel_meaning.specs.Scope.{Scope, key_found, ranged}
@@ -57,26 +57,26 @@ mapped p f [] = refl
 mapped p f (x ∷ xs) = ap (λ b. p (f x) && b) (mapped p f xs)
 
 -- the aggregates of a text that is kept
-pub kept_stand : (s : Scope) (stmt : Statement) (b c : Bool) → b ≡ is_any (text_aggregates stmt) → c ≡ keeps_a_text stmt → c ≡ true → not b ≡ aggregates_stand s stmt
-unfolding aggregates_stand
+pub kept_stand : (s : Scope) (stmt : Statement) (b c : Bool) → b ≡ is_any (text_aggregates stmt) → c ≡ keeps_a_text stmt → c ≡ true → not b ≡ aggregates_allowed s stmt
+unfolding aggregates_allowed
 kept_stand s stmt b c e f t =
-    ap not e ∙ sym (ap (λ k. elim k as (λ x. Bool) [ true ↦ not (is_any (text_aggregates stmt)) | false ↦ list_all (aggregate_stands s) (text_aggregates stmt) ]) (sym f ∙ t))
+    ap not e ∙ sym (ap (λ k. elim k as (λ x. Bool) [ true ↦ not (is_any (text_aggregates stmt)) | false ↦ list_all (aggregate_allowed s) (text_aggregates stmt) ]) (sym f ∙ t))
 
 -- those of others
 pub others_stand : {X : Type 0} (s : Scope) (stmt : Statement) (f : X → AggTerm) (xs : List X) (c : Bool) → map f xs ≡ text_aggregates stmt → c ≡ keeps_a_text stmt → c ≡ false
-    → list_all (λ x. aggregate_stands s (f x)) xs ≡ aggregates_stand s stmt
-unfolding aggregates_stand
+    → list_all (λ x. aggregate_allowed s (f x)) xs ≡ aggregates_allowed s stmt
+unfolding aggregates_allowed
 others_stand s stmt f xs c e g t =
-    mapped (aggregate_stands s) f xs ∙ ap (list_all (aggregate_stands s)) e
-    ∙ sym (ap (λ k. elim k as (λ x. Bool) [ true ↦ not (is_any (text_aggregates stmt)) | false ↦ list_all (aggregate_stands s) (text_aggregates stmt) ]) (sym g ∙ t))
+    mapped (aggregate_allowed s) f xs ∙ ap (list_all (aggregate_allowed s)) e
+    ∙ sym (ap (λ k. elim k as (λ x. Bool) [ true ↦ not (is_any (text_aggregates stmt)) | false ↦ list_all (aggregate_allowed s) (text_aggregates stmt) ]) (sym g ∙ t))
 
 -- an aggregate by its parts
-pub stands_not : (s : Scope) (g : AggTerm) (b : Bool) → b ≡ holds_another g → b ≡ true → false ≡ aggregate_stands s g
-unfolding aggregate_stands
+pub stands_not : (s : Scope) (g : AggTerm) (b : Bool) → b ≡ holds_another g → b ≡ true → false ≡ aggregate_allowed s g
+unfolding aggregate_allowed
 stands_not s g b e t = sym (ap (λ c. not c && is_one_plain s (aggregate_vars g)) (sym e ∙ t))
 
-pub stands_by : (s : Scope) (g : AggTerm) (b : Bool) → b ≡ holds_another g → b ≡ false → is_one_plain s (aggregate_vars g) ≡ aggregate_stands s g
-unfolding aggregate_stands
+pub stands_by : (s : Scope) (g : AggTerm) (b : Bool) → b ≡ holds_another g → b ≡ false → is_one_plain s (aggregate_vars g) ≡ aggregate_allowed s g
+unfolding aggregate_allowed
 stands_by s g b e t = sym (ap (λ c. not c && is_one_plain s (aggregate_vars g)) (sym e ∙ t))
 
 -- what is known of what a variable ranges over

@@ -13,10 +13,10 @@ use Rattle.calculus.specs.Database.{Db, Relation, Index, View, entries, entry_at
 use Rattle.calculus.specs.Rows.{set_of}
 use Rattle.calculus.specs.Name.{is_name}
 use Rattle.calculus.specs.Catalogue.{catalogue_at, is_catalogue_name, relation_info, attribute_info, relation_row, attribute_rows, all_entries}
-use Rattle.calculus.specs.IsDatabase.{IsDatabase, key_is_named, index_stands}
+use Rattle.calculus.specs.IsDatabase.{IsDatabase, key_is_named, valid_index}
 use Rattle.calculus.specs.Stored.{Range, Kept, Viewed, range_at, range_info, info_at, attrs_in, attrs_at, kinds_at}
 use Rattle.calculus.specs.Structures.{is_index}
-use Rattle.am_traits.specs.Told.{known_at}
+use Rattle.base_trait.specs.Known.{known_at}
 use Rattle.quel_meaning.specs.Passing.{is_taken}
 use Rattle.quel_meaning.proofs.Each.{left, right}
 use Rattle.quel_meaning.proofs.Keys.{find_passes, same_keys}
@@ -80,7 +80,7 @@ entry_parts db key =
     ∙ (λ j. option_or (find_mapped (λ i. same_key i.key key) (λ v. v.info) db.views j) (find_mapped (λ i. same_key i.key key) (λ x. x.info) db.indexes j))) i))
 
 -- an index that stands has no attributes
-no_attrs : (db : Db) (x : Index) → index_stands db x ≡ true → x.info.attrs ≡ []
+no_attrs : (db : Db) (x : Index) → valid_index db x ≡ true → x.info.attrs ≡ []
 no_attrs db x h = none x.info.attrs (not_any _ (left _ _ (right (is_relation db x.base) _ (right (is_index x.info.spec) _ h))))
   where
     none : (attrs : List Attr) → is_any attrs ≡ false → attrs ≡ []
@@ -117,7 +117,7 @@ attrs_known db is key =
     indexed x e f g =
         let there : entry_at db key ≡ Some x.info =
         entry_parts db key ∙ (λ i. option_or (option_map (λ r. r.info) (e i)) (option_or (option_map (λ v. v.info) (f i)) (option_map (λ x. x.info) (g i)))) in
-        no_attrs db x (found_passes (λ (x : Index). same_key x.info.key key) (index_stands db) db.indexes x is.indexes_stand g)
+        no_attrs db x (found_passes (λ (x : Index). same_key x.info.key key) (valid_index db) db.indexes x is.indexes_stand g)
         ∙ ap (λ c. attrs_in (option_map range_info (option_map Kept c))) (sym (no_catalogue db key (named_apart db is key x.info there)))
 
     go : (r : Option Relation) → relation_at db key ≡ r → (v : Option View) → view_at db key ≡ v → (x : Option Index) → index_at db key ≡ x

@@ -11,23 +11,23 @@ use Rattle.calculus.specs.Lists.{is_any}
 use Rattle.calculus.specs.QueryParts.{query_aggregates}
 use Rattle.calculus.specs.Replacement.{wanted_kinds}
 use Rattle.calculus.specs.Stored.{kinds_at}
-use Rattle.quel_meaning.specs.Aggregates.{aggregates_stand, aggregate_stands, keeps_a_text}
-use Rattle.quel_meaning.specs.Causes.{causes, causes_by, update_causes}
+use Rattle.quel_meaning.specs.Aggregates.{aggregates_allowed, aggregate_allowed, keeps_a_text}
+use Rattle.quel_meaning.specs.Causes.{refusals, refusals_by, update_refusals}
 use Rattle.quel_meaning.specs.Scope.{Scope}
 use Rattle.quel_meaning.specs.StatementUpdate.{append_of, replace_of, delete_of}
 use Rattle.quel_meaning.specs.WrittenParts.{text_aggregates}
 use Rattle.quel_meaning.specs.WrittenQuery.{query_of}
 use Rattle.quel_meaning.proofs.Slots.{as_many}
-use Rattle.quel_refusals.specs.Judged.{update_of}
+use Rattle.quel_refusals.specs.CheckedStatements.{update_of}
 
 none : {X : Type 0} (xs : List X) → is_any xs ≡ false → xs ≡ []
 none [] h = refl
 none (x ∷ xs) h = absurd (cc h)
 
 -- where there is no aggregate, the aggregates stand
-pub stands : (s : Scope) (stmt : Statement) → is_any (text_aggregates stmt) ≡ false → aggregates_stand s stmt ≡ true
-unfolding aggregates_stand
-stands s stmt h = ap (λ gs. elim (keeps_a_text stmt) as (λ b. Bool) [ true ↦ not (is_any gs) | false ↦ list_all (aggregate_stands s) gs ]) (none (text_aggregates stmt) h) ∙ go (keeps_a_text stmt)
+pub stands : (s : Scope) (stmt : Statement) → is_any (text_aggregates stmt) ≡ false → aggregates_allowed s stmt ≡ true
+unfolding aggregates_allowed
+stands s stmt h = ap (λ gs. elim (keeps_a_text stmt) as (λ b. Bool) [ true ↦ not (is_any gs) | false ↦ list_all (aggregate_allowed s) gs ]) (none (text_aggregates stmt) h) ∙ go (keeps_a_text stmt)
   where
     go : (b : Bool) → elim b as (λ c. Bool) [ true ↦ not false | false ↦ true ] ≡ true
     go true = refl
@@ -42,16 +42,16 @@ none_in_query s stmt q e h = empty (query_aggregates q) (ap (λ p. length (query
     empty (g ∷ gs) h = absurd (cc h)
 
 -- what refuses a statement whose aggregates stand
-pub causes_are : (s : Scope) (stmt : Statement) (q : Query) → q ≡ query_of s stmt → aggregates_stand s stmt ≡ true → causes_by s true q stmt ≡ causes s stmt
-unfolding causes
-causes_are s stmt q e h = λ i. causes_by s (sym h i) (e i) stmt
+pub refusals_are : (s : Scope) (stmt : Statement) (q : Query) → q ≡ query_of s stmt → aggregates_allowed s stmt ≡ true → refusals_by s true q stmt ≡ refusals s stmt
+unfolding refusals
+refusals_are s stmt q e h = λ i. refusals_by s (sym h i) (e i) stmt
 
 -- where they stand in a text that is kept, there is none
-pub none_in_text : (s : Scope) (stmt : Statement) (q : Query) → q ≡ query_of s stmt → aggregates_stand s stmt ≡ true → keeps_a_text stmt ≡ true → query_aggregates q ≡ []
-unfolding aggregates_stand
+pub none_in_text : (s : Scope) (stmt : Statement) (q : Query) → q ≡ query_of s stmt → aggregates_allowed s stmt ≡ true → keeps_a_text stmt ≡ true → query_aggregates q ≡ []
+unfolding aggregates_allowed
 none_in_text s stmt q e h t = none_in_query s stmt q e (not_so (is_any (text_aggregates stmt)) (go (keeps_a_text stmt) t h))
   where
-    go : (b : Bool) → b ≡ true → elim b as (λ c. Bool) [ true ↦ not (is_any (text_aggregates stmt)) | false ↦ list_all (aggregate_stands s) (text_aggregates stmt) ] ≡ true
+    go : (b : Bool) → b ≡ true → elim b as (λ c. Bool) [ true ↦ not (is_any (text_aggregates stmt)) | false ↦ list_all (aggregate_allowed s) (text_aggregates stmt) ] ≡ true
         → not (is_any (text_aggregates stmt)) ≡ true
     go true u k = k
     go false u k = absurd (cc u)
@@ -90,7 +90,7 @@ deleted scope s q u var qual i e = ap (λ o. unwrap_or o u) (e ∙ ap (λ t. upd
 pub record IsUpdate (scope : Scope) (s : Statement) (q : Query) (u : Update) : Type 0 where
   pub query : u.query ≡ q
   pub wants : wanted_kinds scope.db u ≡ map (slice_get (kinds_at scope.db u.rel)) u.places
-  pub are : update_causes scope true u ≡ causes_by scope true q s
+  pub are : update_refusals scope true u ≡ refusals_by scope true q s
 
 pub updated : (scope : Scope) (s : Statement) (q : Query) (u : Update) → ((var : List ℕ) (qual : Qual) → s ≡ statement.Delete var qual → ⊥) → Some u ≡ update_of scope s q → IsUpdate scope s q u
 updated scope (statement.Range var rel) q u other e = absurd (cc e)
@@ -100,14 +100,14 @@ updated scope (statement.Append rel items qual) q u other e =
     record {
       query = ap (λ v. v.query) is ∙ append_query scope rel q;
       wants = subst (λ v. wanted_kinds scope.db v ≡ map (slice_get (kinds_at scope.db v.rel)) v.places) (sym is) (append_wants scope rel q);
-      are = ap (update_causes scope true) is;
+      are = ap (update_refusals scope true) is;
     }
 updated scope (statement.Replace var items qual) q u other e =
     let is : u ≡ replace_of scope var q = ap (λ o. unwrap_or o u) e in
     record {
       query = ap (λ v. v.query) is ∙ replace_query scope var q;
       wants = subst (λ v. wanted_kinds scope.db v ≡ map (slice_get (kinds_at scope.db v.rel)) v.places) (sym is) (replace_wants scope var q);
-      are = ap (update_causes scope true) is;
+      are = ap (update_refusals scope true) is;
     }
 updated scope (statement.Delete var qual) q u other e = absurd (other var qual refl)
 updated scope (statement.Create rel attrs) q u other e = absurd (cc e)

@@ -21,7 +21,7 @@ unfolding has_too_many
 too_many_listed db q n e more =
     sym (ap (λ b. b || nat_lt 50 (listed_expanded_variables db q)) (sym (stopped_lt 10 (listed_variables q) (omega arith)) ∙ ap (nat_lt 10) (sym e) ∙ lt-ltb _ _ more))
 
--- else it counts what they are once the views in them are put in
+-- else it counts what they are once the views in them are expanded
 pub too_many_expanded : (db : Db) (q : Query) (n count : ℕ) → n ≡ min (listed_variables q) (2 ^ 64 - 1) → n ≤ 10
     → count ≡ min (listed_expanded_variables db q) (2 ^ 64 - 1) → nat_lt 50 count ≡ has_too_many db q
 unfolding has_too_many

@@ -2,18 +2,20 @@
 
 ghost use Rattle.std.specs.Prelude.{◌≡◌, ◌&&◌, ◌∷◌, [], length, map, nat_eq, vec_items, zip, IfOk, Some};
 ghost use Rattle.std.specs.List.{list_all};
-ghost use Rattle.am_traits.specs.Causes.{HasCause};
+ghost use Rattle.base_trait.specs.Causes.{HasCause};
 ghost use Rattle.calculus.specs.Aggregate.{source_kinds};
 ghost use Rattle.calculus.specs.Database.{Db};
 ghost use Rattle.calculus.specs.Kinds.{comparable, kind_of, kinds_fit};
 ghost use Rattle.calculus.specs.QueryParts.{targets_of};
 ghost use Rattle.quel_meaning.specs.KindsInQueries.{aggregate_kind, fitting_kind, folded_kind, links_fit};
 
-use crate::kinds::kinds_at;
-use crate::making::{comparable, is_number_kind};
 use crate::widths::target_kinds;
-use am_traits::{Base, BaseFault};
-use calculus::{AggOp, AggSource, Kind, OutOfMemory, QAgg, QTerm, Query, kind_of, kinds_fit};
+use base_trait::{Base, BaseFault};
+use calculus::{
+    AggOp, AggSource, Kind, OutOfMemory, QAgg, QTerm, Query, comparable, is_number_kind, kind_of,
+    kinds_fit,
+};
+use ovqp::kinds_at;
 use std::alloc::Global;
 
 /// The kind of what an operation gives for values of a kind; `None` exactly where it would add texts up.
@@ -89,7 +91,7 @@ fn source_kinds<B: Base>(
     base: &mut B,
     source: &AggSource,
 ) -> Result<Vec<Kind>, BaseFault>
-    ensures told { (db : Db) → B.schema base.old ≡ Some db → IfOk result (λ kinds. kinds.items ≡ source_kinds db source.now) }
+    ensures known { (db : Db) → B.schema base.old ≡ Some db → IfOk result (λ kinds. kinds.items ≡ source_kinds db source.now) }
     ensures kept { B.database base.new ≡ B.database base.old }
     ensures stays { (s : Db) → B.schema base.old ≡ Some s → B.schema base.new ≡ Some s }
     ensures asked { (b : B) → B.asked b base.old → B.asked b base.new }
@@ -116,7 +118,7 @@ fn inner_kinds<B: Base>(
     base: &mut B,
     source: &AggSource,
 ) -> Result<Vec<Vec<Kind>>, BaseFault>
-    ensures told { (db : Db) → B.schema base.old ≡ Some db → IfOk result (λ vars. map vec_items vars.items ≡ source_kinds db source.now ∷ []) }
+    ensures known { (db : Db) → B.schema base.old ≡ Some db → IfOk result (λ vars. map vec_items vars.items ≡ source_kinds db source.now ∷ []) }
     ensures kept { B.database base.new ≡ B.database base.old }
     ensures stays { (s : Db) → B.schema base.old ≡ Some s → B.schema base.new ≡ Some s }
     ensures asked { (b : B) → B.asked b base.old → B.asked b base.new }
@@ -134,7 +136,7 @@ pub(crate) fn aggregate_kind<B: Base>(
     g: &QAgg,
     vars: &[Vec<Kind>],
 ) -> Result<Option<Kind>, BaseFault>
-    ensures told { (db : Db) → B.schema base.old ≡ Some db → IfOk result (λ kind. kind ≡ aggregate_kind db g.now (map vec_items vars.now)) }
+    ensures known { (db : Db) → B.schema base.old ≡ Some db → IfOk result (λ kind. kind ≡ aggregate_kind db g.now (map vec_items vars.now)) }
     ensures kept { B.database base.new ≡ B.database base.old }
     ensures stays { (s : Db) → B.schema base.old ≡ Some s → B.schema base.new ≡ Some s }
     ensures asked { (b : B) → B.asked b base.old → B.asked b base.new }

@@ -1,24 +1,24 @@
 //! What refuses an update of a relation, and a new relation.
 
 ghost use Rattle.std.specs.Prelude.{◌≡◌, ◌∷◌, ◌&&◌, [], true, map, slice_get, is_some, IfOk, Some};
-ghost use Rattle.am_traits.specs.Causes.{HasCause};
+ghost use Rattle.base_trait.specs.Causes.{HasCause};
 ghost use Rattle.calculus.specs.Catalogue.{is_catalogue};
 ghost use Rattle.calculus.specs.Database.{Db, view_at};
-ghost use Rattle.calculus.specs.Replacement.{first_cause, wanted_kinds};
+ghost use Rattle.calculus.specs.Replacement.{first_refusal, wanted_kinds};
 ghost use Rattle.calculus.specs.Stored.{kinds_at};
-ghost use Rattle.quel_meaning.specs.Causes.{delete_causes, update_causes};
+ghost use Rattle.quel_meaning.specs.Causes.{delete_refusals, update_refusals};
 ghost use Rattle.quel_meaning.specs.KindsInQueries.{assignments_fit, query_fits};
 ghost use Rattle.quel_meaning.specs.Scope.{Scope};
 ghost use Rattle.view_sizes.specs.Listing.{sources_list_few};
 
 use crate::counted::has_too_many;
 use crate::fitting::{assignments_fit, query_fits};
-use crate::kinds::kinds_at;
 use crate::places::is_catalogue_name;
 use crate::repeated::titles_repeat;
-use am_traits::{Base, BaseFault};
+use base_trait::{Base, BaseFault};
 use calculus::refusals::{IS_CATALOGUE, IS_VIEW, KINDS_DIFFER, NAMED_TWICE, PAST_LIMIT};
 use calculus::{Name, RelKey, Update};
+use ovqp::kinds_at;
 use std::alloc::Global;
 
 /// Whether the administrator's catalogue of a name has this key.
@@ -31,7 +31,7 @@ fn has_catalogue_key(key: &RelKey, dba: &Name) -> bool
 
 /// Whether a catalogue stands under the key.
 fn is_catalogue<B: Base>(alloc: Global, base: &mut B, key: &RelKey) -> Result<bool, BaseFault>
-    ensures told { (db : Db) → B.schema base.old ≡ Some db → IfOk result (λ b. b ≡ is_catalogue db key.now) }
+    ensures known { (db : Db) → B.schema base.old ≡ Some db → IfOk result (λ b. b ≡ is_catalogue db key.now) }
     ensures kept { B.database base.new ≡ B.database base.old }
     ensures stays { (s : Db) → B.schema base.old ≡ Some s → B.schema base.new ≡ Some s }
     ensures asked { (b : B) → B.asked b base.old → B.asked b base.new }
@@ -43,7 +43,7 @@ fn is_catalogue<B: Base>(alloc: Global, base: &mut B, key: &RelKey) -> Result<bo
 
 /// Whether a view stands under the key.
 fn is_view<B: Base>(alloc: Global, base: &mut B, key: &RelKey) -> Result<bool, BaseFault>
-    ensures told { (db : Db) → B.schema base.old ≡ Some db → IfOk result (λ b. b ≡ is_some (view_at db key.now)) }
+    ensures known { (db : Db) → B.schema base.old ≡ Some db → IfOk result (λ b. b ≡ is_some (view_at db key.now)) }
     ensures kept { B.database base.new ≡ B.database base.old }
     ensures stays { (s : Db) → B.schema base.old ≡ Some s → B.schema base.new ≡ Some s }
     ensures asked { (b : B) → B.asked b base.old → B.asked b base.new }
@@ -56,12 +56,12 @@ fn is_view<B: Base>(alloc: Global, base: &mut B, key: &RelKey) -> Result<bool, B
 }
 
 /// What refuses a change of what has a key: that it is a catalogue, or a view.
-pub fn relation_cause<B: Base>(
+pub fn relation_refusal<B: Base>(
     alloc: Global,
     base: &mut B,
     rel: &RelKey,
 ) -> Result<Option<u8>, BaseFault>
-    ensures told { (db : Db) → B.schema base.old ≡ Some db → IfOk result (λ n. n ≡ first_cause ((28, is_catalogue db rel.now) ∷ (26, is_some (view_at db rel.now)) ∷ [])) }
+    ensures known { (db : Db) → B.schema base.old ≡ Some db → IfOk result (λ n. n ≡ first_refusal ((28, is_catalogue db rel.now) ∷ (26, is_some (view_at db rel.now)) ∷ [])) }
     ensures kept { B.database base.new ≡ B.database base.old }
     ensures stays { (s : Db) → B.schema base.old ≡ Some s → B.schema base.new ≡ Some s }
     ensures asked { (b : B) → B.asked b base.old → B.asked b base.new }
@@ -79,7 +79,7 @@ pub fn relation_cause<B: Base>(
 /// Whether the kinds in an update's query fit each other, and those of its targets the attributes
 /// that they are for.
 fn update_fits<B: Base>(alloc: Global, base: &mut B, u: &Update) -> Result<bool, BaseFault>
-    ensures told { (db : Db) → B.schema base.old ≡ Some db → wanted_kinds db u.now ≡ map (slice_get (kinds_at db u.now.rel)) u.now.places → IfOk result (λ fit. fit ≡ (query_fits db u.now.query && assignments_fit db u.now)) }
+    ensures known { (db : Db) → B.schema base.old ≡ Some db → wanted_kinds db u.now ≡ map (slice_get (kinds_at db u.now.rel)) u.now.places → IfOk result (λ fit. fit ≡ (query_fits db u.now.query && assignments_fit db u.now)) }
     ensures kept { B.database base.new ≡ B.database base.old }
     ensures stays { (s : Db) → B.schema base.old ≡ Some s → B.schema base.new ≡ Some s }
     ensures asked { (b : B) → B.asked b base.old → B.asked b base.new }
@@ -93,12 +93,12 @@ fn update_fits<B: Base>(alloc: Global, base: &mut B, u: &Update) -> Result<bool,
 }
 
 /// What refuses an append or a replacement.
-pub(crate) fn update_cause<B: Base>(
+pub(crate) fn update_refusal<B: Base>(
     alloc: Global,
     base: &mut B,
     u: &Update,
 ) -> Result<Option<u8>, BaseFault>
-    ensures told { (s : Scope) → B.schema base.old ≡ Some s.db → sources_list_few u.now.query ≡ true → wanted_kinds s.db u.now ≡ map (slice_get (kinds_at s.db u.now.rel)) u.now.places → IfOk result (λ n. n ≡ first_cause (update_causes s true u.now)) }
+    ensures known { (s : Scope) → B.schema base.old ≡ Some s.db → sources_list_few u.now.query ≡ true → wanted_kinds s.db u.now ≡ map (slice_get (kinds_at s.db u.now.rel)) u.now.places → IfOk result (λ n. n ≡ first_refusal (update_refusals s true u.now)) }
     ensures kept { B.database base.new ≡ B.database base.old }
     ensures stays { (s : Db) → B.schema base.old ≡ Some s → B.schema base.new ≡ Some s }
     ensures asked { (b : B) → B.asked b base.old → B.asked b base.new }
@@ -113,16 +113,16 @@ pub(crate) fn update_cause<B: Base>(
     if !update_fits(alloc, base, u)? {
         return Ok(Some(KINDS_DIFFER));
     }
-    relation_cause(alloc, base, &u.rel)
+    relation_refusal(alloc, base, &u.rel)
 }
 
 /// What refuses a deletion.
-pub(crate) fn delete_cause<B: Base>(
+pub(crate) fn delete_refusal<B: Base>(
     alloc: Global,
     base: &mut B,
     u: &Update,
 ) -> Result<Option<u8>, BaseFault>
-    ensures told { (s : Scope) → B.schema base.old ≡ Some s.db → sources_list_few u.now.query ≡ true → IfOk result (λ n. n ≡ first_cause (delete_causes s true u.now)) }
+    ensures known { (s : Scope) → B.schema base.old ≡ Some s.db → sources_list_few u.now.query ≡ true → IfOk result (λ n. n ≡ first_refusal (delete_refusals s true u.now)) }
     ensures kept { B.database base.new ≡ B.database base.old }
     ensures stays { (s : Db) → B.schema base.old ≡ Some s → B.schema base.new ≡ Some s }
     ensures asked { (b : B) → B.asked b base.old → B.asked b base.new }
@@ -134,5 +134,5 @@ pub(crate) fn delete_cause<B: Base>(
     if !query_fits(alloc, base, &u.query)? {
         return Ok(Some(KINDS_DIFFER));
     }
-    relation_cause(alloc, base, &u.rel)
+    relation_refusal(alloc, base, &u.rel)
 }

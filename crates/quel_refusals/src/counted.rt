@@ -1,18 +1,18 @@
 //! Whether a query lists too many variables.
 
 ghost use Rattle.std.specs.Prelude.{◌≡◌, ◌-◌, ◌^◌, min, true, IfOk, Some};
-ghost use Rattle.am_traits.specs.Causes.{HasCause};
+ghost use Rattle.base_trait.specs.Causes.{HasCause};
 ghost use Rattle.calculus.specs.Database.{Db};
 ghost use Rattle.quel_meaning.specs.Passing.{has_too_many, listed_variables};
 ghost use Rattle.view_sizes.specs.Listing.{sources_list_few};
 
-use am_traits::{Base, BaseFault};
+use base_trait::{Base, BaseFault};
 use calculus::limits::MOST_VARIABLES;
 use calculus::{OutOfMemory, Query};
 use std::alloc::Global;
 use view_sizes::{aggregates_of, listed_expanded_variables};
 
-/// The variables that a query has at most once the views in it are put in.
+/// The variables that a query has at most once the views in it are expanded.
 const MOST_EXPANDED_VARIABLES: u64 = 50;
 
 /// How many variables a query lists, each of its aggregates having one; it stops at the greatest number
@@ -24,10 +24,10 @@ fn listed_variables(alloc: Global, query: &Query) -> Result<usize, OutOfMemory>
     Ok(query.vars.items().len().saturating_add(aggregates.len()))
 }
 
-/// Whether a query lists more variables than it may, as it stands or once the views in it are put in,
+/// Whether a query lists more variables than it may, as it stands or once the views in it are expanded,
 /// those of its aggregates counted too, where no query that is a source lists more than 256.
 pub fn has_too_many<B: Base>(alloc: Global, base: &mut B, query: &Query) -> Result<bool, BaseFault>
-    ensures told { (db : Db) → B.schema base.old ≡ Some db → sources_list_few query.now ≡ true → IfOk result (λ many. many ≡ has_too_many db query.now) }
+    ensures known { (db : Db) → B.schema base.old ≡ Some db → sources_list_few query.now ≡ true → IfOk result (λ many. many ≡ has_too_many db query.now) }
     ensures kept { B.database base.new ≡ B.database base.old }
     ensures stays { (s : Db) → B.schema base.old ≡ Some s → B.schema base.new ≡ Some s }
     ensures asked { (b : B) → B.asked b base.old → B.asked b base.new }

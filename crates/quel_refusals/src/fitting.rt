@@ -2,17 +2,16 @@
 
 ghost use Rattle.std.specs.Prelude.{◌≡◌, map, vec_items, zip, slice_get, IfOk, Some};
 ghost use Rattle.std.specs.List.{list_all};
-ghost use Rattle.am_traits.specs.Causes.{HasCause};
+ghost use Rattle.base_trait.specs.Causes.{HasCause};
 ghost use Rattle.calculus.specs.Database.{Db};
 ghost use Rattle.calculus.specs.IsDatabase.{has_kind, same_domain, same_kind, var_kinds};
 ghost use Rattle.calculus.specs.Kinds.{comparable, kind_of};
 ghost use Rattle.quel_meaning.specs.KindsInQueries.{kind_in_query, query_fits};
 
 use crate::kinds::var_kinds;
-use crate::making::is_number_kind;
 use crate::terms::{kind_in_query, kinds_fit_in_query};
-use am_traits::{Base, BaseFault};
-use calculus::{Domain, Kind, Query, Target, kind_of};
+use base_trait::{Base, BaseFault};
+use calculus::{Domain, Kind, Query, Target, is_number_kind, kind_of};
 use std::alloc::Global;
 
 fn same_domain(left: Domain, right: Domain) -> bool
@@ -68,7 +67,7 @@ fn all_of_kinds<B: Base>(
     targets: &[Target],
     vars: &[Vec<Kind>],
 ) -> Result<bool, BaseFault>
-    ensures told { (db : Db) → B.schema base.old ≡ Some db → IfOk result (λ fit. fit ≡ list_all (λ t. has_kind (kind_in_query db t.term (map vec_items vars.now)) t.kind) targets.now) }
+    ensures known { (db : Db) → B.schema base.old ≡ Some db → IfOk result (λ fit. fit ≡ list_all (λ t. has_kind (kind_in_query db t.term (map vec_items vars.now)) t.kind) targets.now) }
     ensures kept { B.database base.new ≡ B.database base.old }
     ensures stays { (s : Db) → B.schema base.old ≡ Some s → B.schema base.new ≡ Some s }
     ensures asked { (b : B) → B.asked b base.old → B.asked b base.new }
@@ -90,7 +89,7 @@ fn fits_over<B: Base>(
     q: &Query,
     vars: &[Vec<Kind>],
 ) -> Result<bool, BaseFault>
-    ensures told { (db : Db) → B.schema base.old ≡ Some db → var_kinds db q.now ≡ map vec_items vars.now → IfOk result (λ fit. fit ≡ query_fits db q.now) }
+    ensures known { (db : Db) → B.schema base.old ≡ Some db → var_kinds db q.now ≡ map vec_items vars.now → IfOk result (λ fit. fit ≡ query_fits db q.now) }
     ensures kept { B.database base.new ≡ B.database base.old }
     ensures stays { (s : Db) → B.schema base.old ≡ Some s → B.schema base.new ≡ Some s }
     ensures asked { (b : B) → B.asked b base.old → B.asked b base.new }
@@ -106,7 +105,7 @@ fn fits_over<B: Base>(
 /// Whether the kinds in a query fit each other, and each target is of its kind. The base is asked for
 /// the kinds of its variables and of the sources of its aggregates.
 pub fn query_fits<B: Base>(alloc: Global, base: &mut B, q: &Query) -> Result<bool, BaseFault>
-    ensures told { (db : Db) → B.schema base.old ≡ Some db → IfOk result (λ fit. fit ≡ query_fits db q.now) }
+    ensures known { (db : Db) → B.schema base.old ≡ Some db → IfOk result (λ fit. fit ≡ query_fits db q.now) }
     ensures kept { B.database base.new ≡ B.database base.old }
     ensures stays { (s : Db) → B.schema base.old ≡ Some s → B.schema base.new ≡ Some s }
     ensures asked { (b : B) → B.asked b base.old → B.asked b base.new }

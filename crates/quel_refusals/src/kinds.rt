@@ -1,47 +1,14 @@
 //! The kinds of the attributes of what variables range over.
 
 ghost use Rattle.std.specs.Prelude.{◌≡◌, ◌++◌, ◌∷◌, [], IfOk, OnOk, Some, map, vec_items};
-ghost use Rattle.am_traits.specs.Causes.{HasCause};
+ghost use Rattle.base_trait.specs.Causes.{HasCause};
 ghost use Rattle.calculus.specs.Database.{Db};
-ghost use Rattle.calculus.specs.Stored.{attrs_in, kinds_at};
+ghost use Rattle.calculus.specs.Stored.{kinds_at};
 
-use am_traits::{Base, BaseFault};
-use calculus::{Attr, Kind, OutOfMemory, RelInfo, RelKey};
+use base_trait::{Base, BaseFault};
+use calculus::{Kind, OutOfMemory, RelKey};
+use ovqp::kinds_at;
 use std::alloc::Global;
-
-fn kinds_of(alloc: Global, attrs: &[Attr]) -> Result<Vec<Kind>, OutOfMemory>
-    ensures { IfOk result (λ kinds. kinds.items ≡ map (λ a. a.kind) attrs.now) }
-{
-    let mut kinds = Vec::new(alloc);
-    for attr in attrs {
-        kinds.push(attr.kind)?;
-    }
-    Ok(kinds)
-}
-
-fn kinds_in(alloc: Global, info: &Option<RelInfo>) -> Result<Vec<Kind>, OutOfMemory>
-    ensures { IfOk result (λ kinds. kinds.items ≡ map (λ a. a.kind) (attrs_in info.now)) }
-{
-    match info {
-        Some(info) => kinds_of(alloc, info.attrs.items()),
-        None => Ok(Vec::new(alloc)),
-    }
-}
-
-/// The kinds of the attributes of the relation, view or catalogue under a key; none where an index or
-/// nothing stands there.
-pub fn kinds_at<B: Base>(alloc: Global, base: &mut B, key: &RelKey) -> Result<Vec<Kind>, BaseFault>
-    ensures told { (db : Db) → B.schema base.old ≡ Some db → IfOk result (λ kinds. kinds.items ≡ kinds_at db key.now) }
-    ensures kept { B.database base.new ≡ B.database base.old }
-    ensures stays { (s : Db) → B.schema base.old ≡ Some s → B.schema base.new ≡ Some s }
-    ensures asked { (b : B) → B.asked b base.old → B.asked b base.new }
-    ensures cause { HasCause (B.database base.old) (B.faults base.old) (B.faults base.new) result }
-{
-    let info = base.info(alloc, key)?;
-    let kinds = kinds_in(alloc, &info);
-    drop(info);
-    Ok(kinds?)
-}
 
 fn put_behind(kinds: &mut Vec<Vec<Kind>>, more: Vec<Kind>) -> Result<(), OutOfMemory>
     ensures { OnOk result (map vec_items kinds.new.items ≡ map vec_items kinds.old.items ++ more.items ∷ []) }
@@ -55,7 +22,7 @@ pub fn var_kinds<B: Base>(
     base: &mut B,
     vars: &[RelKey],
 ) -> Result<Vec<Vec<Kind>>, BaseFault>
-    ensures told { (db : Db) → B.schema base.old ≡ Some db → IfOk result (λ kinds. map vec_items kinds.items ≡ map (kinds_at db) vars.now) }
+    ensures known { (db : Db) → B.schema base.old ≡ Some db → IfOk result (λ kinds. map vec_items kinds.items ≡ map (kinds_at db) vars.now) }
     ensures kept { B.database base.new ≡ B.database base.old }
     ensures stays { (s : Db) → B.schema base.old ≡ Some s → B.schema base.new ≡ Some s }
     ensures asked { (b : B) → B.asked b base.old → B.asked b base.new }

@@ -1,11 +1,11 @@
 //! The numbers of the permits and rules that stand on a relation.
 
 ghost use Rattle.std.specs.Prelude.{◌≡◌, map, IfOk, Some};
-ghost use Rattle.am_traits.specs.Causes.{HasCause};
+ghost use Rattle.base_trait.specs.Causes.{HasCause};
 ghost use Rattle.calculus.specs.Change.{permit_numbers, rule_numbers};
 ghost use Rattle.calculus.specs.Database.{Db};
 
-use am_traits::{Base, BaseFault};
+use base_trait::{Base, BaseFault};
 use calculus::{OutOfMemory, Permit, RelKey, Rule};
 use std::alloc::Global;
 
@@ -32,12 +32,12 @@ fn rule_numbers(alloc: Global, rules: &[Rule]) -> Result<Vec<u32>, OutOfMemory>
 }
 
 /// The numbers of the permits that stand on a relation.
-pub fn standing_permits<B: Base>(
+pub fn existing_permits<B: Base>(
     alloc: Global,
     base: &mut B,
     rel: &RelKey,
 ) -> Result<Vec<u32>, BaseFault>
-    ensures told { (db : Db) → B.schema base.old ≡ Some db → IfOk result (λ numbers. numbers.items ≡ permit_numbers db rel.now) }
+    ensures known { (db : Db) → B.schema base.old ≡ Some db → IfOk result (λ numbers. numbers.items ≡ permit_numbers db rel.now) }
     ensures kept { B.database base.new ≡ B.database base.old }
     ensures stays { (s : Db) → B.schema base.old ≡ Some s → B.schema base.new ≡ Some s }
     ensures asked { (b : B) → B.asked b base.old → B.asked b base.new }
@@ -50,12 +50,12 @@ pub fn standing_permits<B: Base>(
 }
 
 /// The numbers of the rules that stand on a relation.
-pub fn standing_rules<B: Base>(
+pub fn existing_rules<B: Base>(
     alloc: Global,
     base: &mut B,
     rel: &RelKey,
 ) -> Result<Vec<u32>, BaseFault>
-    ensures told { (db : Db) → B.schema base.old ≡ Some db → IfOk result (λ numbers. numbers.items ≡ rule_numbers db rel.now) }
+    ensures known { (db : Db) → B.schema base.old ≡ Some db → IfOk result (λ numbers. numbers.items ≡ rule_numbers db rel.now) }
     ensures kept { B.database base.new ≡ B.database base.old }
     ensures stays { (s : Db) → B.schema base.old ≡ Some s → B.schema base.new ≡ Some s }
     ensures asked { (b : B) → B.asked b base.old → B.asked b base.new }

@@ -1,14 +1,14 @@
 //! Whether there is room for one more relation, view or index, and whether its name is in use.
 
 ghost use Rattle.std.specs.Prelude.{◌≡◌, is_some, IfOk, Some};
-ghost use Rattle.am_traits.specs.Causes.{HasCause};
-ghost use Rattle.am_traits.specs.Told.{known_at};
+ghost use Rattle.base_trait.specs.Causes.{HasCause};
+ghost use Rattle.base_trait.specs.Known.{known_at};
 ghost use Rattle.calculus.specs.Catalogue.{is_catalogue_name};
 ghost use Rattle.calculus.specs.Database.{Db};
 ghost use Rattle.calculus.specs.Keys.{key_of};
 ghost use Rattle.quel_meaning.specs.Passing.{is_full, is_taken};
 
-use am_traits::{Base, BaseFault};
+use base_trait::{Base, BaseFault};
 use calculus::limits::MOST_ENTRIES;
 use calculus::{Name, OutOfMemory, RelKey};
 use std::alloc::Global;
@@ -16,7 +16,7 @@ use std::alloc::Global;
 /// Whether there is no room for a further relation, view or index.
 #[tactic(auto, unfolding(quel_meaning::specs::Passing::is_full))]
 pub fn is_full<B: Base>(base: &mut B) -> Result<bool, BaseFault>
-    ensures told { (db : Db) → B.schema base.old ≡ Some db → IfOk result (λ full. full ≡ is_full db) }
+    ensures known { (db : Db) → B.schema base.old ≡ Some db → IfOk result (λ full. full ≡ is_full db) }
     ensures kept { B.database base.new ≡ B.database base.old }
     ensures stays { (s : Db) → B.schema base.old ≡ Some s → B.schema base.new ≡ Some s }
     ensures asked { (b : B) → B.asked b base.old → B.asked b base.new }
@@ -44,7 +44,7 @@ pub fn is_catalogue_name(name: &Name) -> bool
 
 /// Whether a relation, a view, an index or a catalogue stands under the key.
 fn is_known<B: Base>(alloc: Global, base: &mut B, key: &RelKey) -> Result<bool, BaseFault>
-    ensures told { (db : Db) → B.schema base.old ≡ Some db → IfOk result (λ known. known ≡ is_some (known_at db key.now)) }
+    ensures known { (db : Db) → B.schema base.old ≡ Some db → IfOk result (λ known. known ≡ is_some (known_at db key.now)) }
     ensures kept { B.database base.new ≡ B.database base.old }
     ensures stays { (s : Db) → B.schema base.old ≡ Some s → B.schema base.new ≡ Some s }
     ensures asked { (b : B) → B.asked b base.old → B.asked b base.new }
@@ -64,7 +64,7 @@ pub fn is_taken<B: Base>(
     user: &Name,
     name: &Name,
 ) -> Result<bool, BaseFault>
-    ensures told { (db : Db) → B.schema base.old ≡ Some db → IfOk result (λ taken. taken ≡ is_taken db user.now name.now) }
+    ensures known { (db : Db) → B.schema base.old ≡ Some db → IfOk result (λ taken. taken ≡ is_taken db user.now name.now) }
     ensures kept { B.database base.new ≡ B.database base.old }
     ensures stays { (s : Db) → B.schema base.old ≡ Some s → B.schema base.new ≡ Some s }
     ensures asked { (b : B) → B.asked b base.old → B.asked b base.new }

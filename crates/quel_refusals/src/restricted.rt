@@ -1,28 +1,28 @@
 //! What refuses a permit or a rule.
 
 ghost use Rattle.std.specs.Prelude.{◌≡◌, ◌∷◌, ◌||◌, ◌&&◌, nat_le, ℕ, [], List, Option, length, map, nat_lt, not, true, option_copied, IfOk, Some};
-ghost use Rattle.am_traits.specs.Causes.{HasCause};
+ghost use Rattle.base_trait.specs.Causes.{HasCause};
 ghost use Rattle.calculus.specs.Change.{permit_numbers, rule_numbers};
 ghost use Rattle.calculus.specs.Database.{Db};
-ghost use Rattle.calculus.specs.IsDatabase.{row_qual_stands};
+ghost use Rattle.calculus.specs.IsDatabase.{valid_row_qual};
 ghost use Rattle.calculus.specs.Kinds.{kinds_fit};
 ghost use Rattle.calculus.specs.QueryParts.{qual_of, query_aggregates, vars_of};
 ghost use Rattle.calculus.specs.Sizes.{qual_size};
 ghost use Rattle.view_sizes.specs.Sized.{qual_depth};
-ghost use Rattle.calculus.specs.Replacement.{first_cause};
+ghost use Rattle.calculus.specs.Replacement.{first_refusal};
 ghost use Rattle.calculus.specs.Storable.{row_qual_is_small};
 ghost use Rattle.calculus.specs.declared.statement.Qual.{Qual as WrittenQual};
 ghost use Rattle.calculus.specs.declared.statement.Statement.TheVariants as statement;
-ghost use Rattle.quel_refusals.specs.Judged.{IsOver};
-ghost use Rattle.quel_meaning.specs.Causes.{causes_by};
+ghost use Rattle.quel_refusals.specs.CheckedStatements.{IsOver};
+ghost use Rattle.quel_meaning.specs.Causes.{refusals_by};
 ghost use Rattle.quel_meaning.specs.Planned.{greatest, is_past_limit};
 ghost use Rattle.quel_meaning.specs.Scope.{Scope};
 
-use crate::kinds::kinds_at;
-use am_traits::{Base, BaseFault};
+use base_trait::{Base, BaseFault};
 use calculus::limits::{GREATEST_NUMBER, MOST_NUMBERED, MOST_SIZE};
 use calculus::refusals::{KINDS_DIFFER, PAST_LIMIT};
 use calculus::{Kind, Name, OutOfMemory, Permit, QQual, Query, RelInfo, RelKey, Rule, kinds_fit};
+use ovqp::kinds_at;
 use std::alloc::Global;
 use view_sizes::{qual_depth, qual_size};
 
@@ -68,7 +68,7 @@ fn rules_fill(rules: &[Rule]) -> bool
 
 /// Whether a relation may have no more permits.
 fn has_all_permits<B: Base>(alloc: Global, base: &mut B, rel: &RelKey) -> Result<bool, BaseFault>
-    ensures told { (db : Db) → B.schema base.old ≡ Some db → IfOk result (λ full. full ≡ is_past_limit 100 (permit_numbers db rel.now)) }
+    ensures known { (db : Db) → B.schema base.old ≡ Some db → IfOk result (λ full. full ≡ is_past_limit 100 (permit_numbers db rel.now)) }
     ensures kept { B.database base.new ≡ B.database base.old }
     ensures stays { (s : Db) → B.schema base.old ≡ Some s → B.schema base.new ≡ Some s }
     ensures asked { (b : B) → B.asked b base.old → B.asked b base.new }
@@ -80,7 +80,7 @@ fn has_all_permits<B: Base>(alloc: Global, base: &mut B, rel: &RelKey) -> Result
 
 /// Whether a relation may have no more rules.
 fn has_all_rules<B: Base>(alloc: Global, base: &mut B, rel: &RelKey) -> Result<bool, BaseFault>
-    ensures told { (db : Db) → B.schema base.old ≡ Some db → IfOk result (λ full. full ≡ is_past_limit 100 (rule_numbers db rel.now)) }
+    ensures known { (db : Db) → B.schema base.old ≡ Some db → IfOk result (λ full. full ≡ is_past_limit 100 (rule_numbers db rel.now)) }
     ensures kept { B.database base.new ≡ B.database base.old }
     ensures stays { (s : Db) → B.schema base.old ≡ Some s → B.schema base.new ≡ Some s }
     ensures asked { (b : B) → B.asked b base.old → B.asked b base.new }
@@ -109,13 +109,13 @@ fn fits_row(alloc: Global, kinds: Vec<Kind>, qual: &QQual) -> Result<bool, OutOf
 }
 
 /// Whether the kinds in a qualification over a row of the relation fit.
-fn row_qual_stands<B: Base>(
+fn valid_row_qual<B: Base>(
     alloc: Global,
     base: &mut B,
     rel: &RelKey,
     qual: &QQual,
 ) -> Result<bool, BaseFault>
-    ensures told { (db : Db) → B.schema base.old ≡ Some db → IfOk result (λ stands. stands ≡ row_qual_stands db rel.now qual.now) }
+    ensures known { (db : Db) → B.schema base.old ≡ Some db → IfOk result (λ stands. stands ≡ valid_row_qual db rel.now qual.now) }
     ensures kept { B.database base.new ≡ B.database base.old }
     ensures stays { (s : Db) → B.schema base.old ≡ Some s → B.schema base.new ≡ Some s }
     ensures asked { (b : B) → B.asked b base.old → B.asked b base.new }
@@ -142,14 +142,14 @@ fn lists_too_many(full: bool, attrs: &[Name]) -> bool
 
 /// What refuses a permit or a rule with this query on a relation, where it is known whether there is
 /// room among those that stand there.
-fn row_cause<B: Base>(
+fn row_refusal<B: Base>(
     alloc: Global,
     base: &mut B,
     rel: &RelKey,
     no_room: bool,
     q: &Query,
 ) -> Result<Option<u8>, BaseFault>
-    ensures told { (db : Db) → B.schema base.old ≡ Some db → query_aggregates q.now ≡ [] → IfOk result (λ n. n ≡ first_cause ((14, nat_lt 1 (length (vars_of q.now)) || (no_room || not (row_qual_is_small (qual_of q.now)))) ∷ (13, not (row_qual_stands db rel.now (qual_of q.now))) ∷ [])) }
+    ensures known { (db : Db) → B.schema base.old ≡ Some db → query_aggregates q.now ≡ [] → IfOk result (λ n. n ≡ first_refusal ((14, nat_lt 1 (length (vars_of q.now)) || (no_room || not (row_qual_is_small (qual_of q.now)))) ∷ (13, not (valid_row_qual db rel.now (qual_of q.now))) ∷ [])) }
     ensures kept { B.database base.new ≡ B.database base.old }
     ensures stays { (s : Db) → B.schema base.old ≡ Some s → B.schema base.new ≡ Some s }
     ensures asked { (b : B) → B.asked b base.old → B.asked b base.new }
@@ -158,21 +158,21 @@ fn row_cause<B: Base>(
     if no_room || is_past_row(q) {
         return Ok(Some(PAST_LIMIT));
     }
-    if !row_qual_stands(alloc, base, rel, &q.qual)? {
+    if !valid_row_qual(alloc, base, rel, &q.qual)? {
         return Ok(Some(KINDS_DIFFER));
     }
     Ok(None)
 }
 
 /// What refuses a permit with this query, where this is known of what its variable ranges over.
-pub(crate) fn permit_cause<B: Base>(
+pub(crate) fn permit_refusal<B: Base>(
     alloc: Global,
     base: &mut B,
     on: Option<&RelInfo>,
     attrs: &[Name],
     q: &Query,
 ) -> Result<Option<u8>, BaseFault>
-    ensures told { (s : Scope) (ops : ℕ) (var : List ℕ) (user : Option (List ℕ)) (qual : WrittenQual) → B.schema base.old ≡ Some s.db → IsOver s var (option_copied on.entry) → query_aggregates q.now ≡ [] → IfOk result (λ n. n ≡ first_cause (causes_by s true q.now (statement.Permit ops var attrs.now user qual))) }
+    ensures known { (s : Scope) (ops : ℕ) (var : List ℕ) (user : Option (List ℕ)) (qual : WrittenQual) → B.schema base.old ≡ Some s.db → IsOver s var (option_copied on.entry) → query_aggregates q.now ≡ [] → IfOk result (λ n. n ≡ first_refusal (refusals_by s true q.now (statement.Permit ops var attrs.now user qual))) }
     ensures kept { B.database base.new ≡ B.database base.old }
     ensures stays { (s : Db) → B.schema base.old ≡ Some s → B.schema base.new ≡ Some s }
     ensures asked { (b : B) → B.asked b base.old → B.asked b base.new }
@@ -182,17 +182,17 @@ pub(crate) fn permit_cause<B: Base>(
         return Ok(None);
     };
     let full = has_all_permits(alloc, base, &info.key)?;
-    row_cause(alloc, base, &info.key, lists_too_many(full, attrs), q)
+    row_refusal(alloc, base, &info.key, lists_too_many(full, attrs), q)
 }
 
 /// What refuses a rule with this query, where this is known of what its variable ranges over.
-pub(crate) fn rule_cause<B: Base>(
+pub(crate) fn rule_refusal<B: Base>(
     alloc: Global,
     base: &mut B,
     on: Option<&RelInfo>,
     q: &Query,
 ) -> Result<Option<u8>, BaseFault>
-    ensures told { (s : Scope) (var : List ℕ) (qual : WrittenQual) → B.schema base.old ≡ Some s.db → IsOver s var (option_copied on.entry) → query_aggregates q.now ≡ [] → IfOk result (λ n. n ≡ first_cause (causes_by s true q.now (statement.Rule var qual))) }
+    ensures known { (s : Scope) (var : List ℕ) (qual : WrittenQual) → B.schema base.old ≡ Some s.db → IsOver s var (option_copied on.entry) → query_aggregates q.now ≡ [] → IfOk result (λ n. n ≡ first_refusal (refusals_by s true q.now (statement.Rule var qual))) }
     ensures kept { B.database base.new ≡ B.database base.old }
     ensures stays { (s : Db) → B.schema base.old ≡ Some s → B.schema base.new ≡ Some s }
     ensures asked { (b : B) → B.asked b base.old → B.asked b base.new }
@@ -202,5 +202,5 @@ pub(crate) fn rule_cause<B: Base>(
         return Ok(None);
     };
     let no_room = has_all_rules(alloc, base, &info.key)?;
-    row_cause(alloc, base, &info.key, no_room, q)
+    row_refusal(alloc, base, &info.key, no_room, q)
 }

@@ -2,14 +2,15 @@
 //! for the sources of aggregates alone.
 
 ghost use Rattle.std.specs.Prelude.{◌≡◌, map, vec_items, IfOk, Some};
-ghost use Rattle.am_traits.specs.Causes.{HasCause};
+ghost use Rattle.base_trait.specs.Causes.{HasCause};
 ghost use Rattle.calculus.specs.Database.{Db};
 ghost use Rattle.quel_meaning.specs.KindsInQueries.{kind_in_query, kinds_fit_in_query};
 
 use crate::aggregates::aggregate_kind;
-use crate::making::{comparable, is_text_kind, joined_kind, number_kind, operated_kind};
-use am_traits::{Base, BaseFault};
-use calculus::{Kind, QQual, QTerm, kind_of};
+use base_trait::{Base, BaseFault};
+use calculus::{
+    Kind, QQual, QTerm, comparable, is_text_kind, joined_kind, kind_of, number_kind, operated_kind,
+};
 use std::alloc::Global;
 
 /// The kind of a term in a query whose variables have attributes of these kinds; `None` exactly where a
@@ -21,7 +22,7 @@ pub fn kind_in_query<B: Base>(
     t: &QTerm,
     vars: &[Vec<Kind>],
 ) -> Result<Option<Kind>, BaseFault>
-    ensures told { (db : Db) → B.schema base.old ≡ Some db → IfOk result (λ kind. kind ≡ kind_in_query db t.now (map vec_items vars.now)) }
+    ensures known { (db : Db) → B.schema base.old ≡ Some db → IfOk result (λ kind. kind ≡ kind_in_query db t.now (map vec_items vars.now)) }
     ensures kept { B.database base.new ≡ B.database base.old }
     ensures stays { (s : Db) → B.schema base.old ≡ Some s → B.schema base.new ≡ Some s }
     ensures asked { (b : B) → B.asked b base.old → B.asked b base.new }
@@ -56,7 +57,7 @@ pub fn kinds_fit_in_query<B: Base>(
     q: &QQual,
     vars: &[Vec<Kind>],
 ) -> Result<bool, BaseFault>
-    ensures told { (db : Db) → B.schema base.old ≡ Some db → IfOk result (λ fit. fit ≡ kinds_fit_in_query db q.now (map vec_items vars.now)) }
+    ensures known { (db : Db) → B.schema base.old ≡ Some db → IfOk result (λ fit. fit ≡ kinds_fit_in_query db q.now (map vec_items vars.now)) }
     ensures kept { B.database base.new ≡ B.database base.old }
     ensures stays { (s : Db) → B.schema base.old ≡ Some s → B.schema base.new ≡ Some s }
     ensures asked { (b : B) → B.asked b base.old → B.asked b base.new }

@@ -7,7 +7,7 @@ ghost use Rattle.calculus.specs.Replacement.{made_attr};
 ghost use Rattle.quel_meaning.specs.Passing.{is_too_wide};
 
 use calculus::limits::{MOST_ATTRIBUTES, MOST_ROW_BYTES};
-use calculus::{Domain, Kind, Name, OutOfMemory, Target};
+use calculus::{Domain, Kind, Name, OutOfMemory, Target, made_kind};
 use std::alloc::Global;
 
 /// The bytes that a value of the kind takes in a row.
@@ -52,16 +52,6 @@ pub fn target_kinds(alloc: Global, targets: &[Target]) -> Result<Vec<Kind>, OutO
         kinds.push(target.kind)?;
     }
     Ok(kinds)
-}
-
-/// The kind of the attribute that is made of a target: a number of 64 bits becomes one of 32.
-pub fn made_kind(target: &Target) -> Kind
-    ensures { result ≡ (made_attr target.now).kind }
-{
-    match target.kind {
-        Kind::Wide => Kind::Of(Domain::I4),
-        Kind::Of(domain) => Kind::Of(domain),
-    }
 }
 
 /// The kinds of the attributes that are made of the targets: a number of 64 bits becomes one of 32.

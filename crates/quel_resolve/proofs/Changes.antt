@@ -13,16 +13,16 @@ use Rattle.calculus.specs.declared.value.Domain.{Domain}
 use Rattle.calculus.specs.declared.statement.Statement.TheVariants as statement
 use Rattle.calculus.specs.IsDatabase.{IsDatabase}
 use Rattle.calculus.specs.QueryParts.{targets_of}
-use Rattle.calculus.specs.Replacement.{first_cause, made_attr}
+use Rattle.calculus.specs.Replacement.{first_refusal, made_attr}
 use Rattle.calculus.specs.Finding.{found}
 use Rattle.calculus.specs.Keys.{key_of}
 use Rattle.calculus.specs.Stored.{attrs_in, info_at}
-use Rattle.quel_refusals.specs.Judged.{IsOn, is_judged, update_of}
+use Rattle.quel_refusals.specs.CheckedStatements.{IsOn, is_checked, update_of}
 use Rattle.quel_meaning.proofs.Each.{Each}
 use Rattle.quel_meaning.proofs.Found.{names_found, named_with, ranged_with, ranged_is}
 use Rattle.quel_meaning.proofs.ReadsFit.{narrow_targets, none_of}
-use Rattle.quel_meaning.specs.Causes.{causes, print_causes, into_causes, view_causes}
-use Rattle.quel_meaning.specs.Aggregates.{aggregates_stand}
+use Rattle.quel_meaning.specs.Causes.{refusals, print_refusals, into_refusals, view_refusals}
+use Rattle.quel_meaning.specs.Aggregates.{aggregates_allowed}
 use Rattle.quel_meaning.specs.FitQueries.{has_few_targets}
 use Rattle.quel_meaning.specs.Naming.{mentions, name_refusal, no_refusal}
 use Rattle.quel_meaning.specs.Resolved.{tree_by, tree_of}
@@ -195,8 +195,8 @@ on_changed s (statement.Permit ops var attrs user qual) (Some info) h k = h
 on_changed s (statement.Rule var qual) None h k = absurd (cc k)
 on_changed s (statement.Rule var qual) (Some info) h k = h
 
--- a statement that isn't served without a query, declares nothing and changes no rows has a tree where what it changes is there
-pub has_tree_on : (stmt : Statement) (info : RelInfo) → is_judged stmt ≡ true → is_range stmt ≡ false → changes_rows stmt ≡ false → has_tree stmt (Some info) ≡ true
+-- a statement that needs a query, declares nothing and changes no rows has a tree where what it changes is there
+pub has_tree_on : (stmt : Statement) (info : RelInfo) → is_checked stmt ≡ true → is_range stmt ≡ false → changes_rows stmt ≡ false → has_tree stmt (Some info) ≡ true
 has_tree_on (statement.Range var rel) info w h k = absurd (cc h)
 has_tree_on (statement.Retrieve into items qual sort) info w h k = refl
 has_tree_on (statement.Append rel items qual) info w h k = absurd (cc k)
@@ -216,7 +216,7 @@ has_tree_on (statement.Permit ops var attrs user qual) info w h k = refl
 has_tree_on (statement.Rule var qual) info w h k = refl
 
 -- one whose names were found and that changes nothing has a tree
-pub has_tree_alone : (s : Scope) (stmt : Statement) → name_refusal s stmt ≡ None → changed s stmt ≡ None → is_judged stmt ≡ true → is_range stmt ≡ false → has_tree stmt None ≡ true
+pub has_tree_alone : (s : Scope) (stmt : Statement) → name_refusal s stmt ≡ None → changed s stmt ≡ None → is_checked stmt ≡ true → is_range stmt ≡ false → has_tree stmt None ≡ true
 unfolding mentions
 has_tree_alone s (statement.Range var rel) n c w h = absurd (cc h)
 has_tree_alone s (statement.Retrieve into items qual sort) n c w h = refl
@@ -253,9 +253,9 @@ has_tree_alone s (statement.Rule var qual) n c w h =
 few_if : (q : Query) → has_few_targets q ≡ true → length (targets_of q) ≤ 256
 few_if q h = let few : length (targets_of q) ≤ 49 = leb-true _ _ h in omega (arith, few)
 
-few_printed : (s : Scope) (items : List Item) (qual : Qual) (sort : List (List ℕ × Bool)) → first_cause (causes s (statement.Retrieve None items qual sort)) ≡ None
+few_printed : (s : Scope) (items : List Item) (qual : Qual) (sort : List (List ℕ × Bool)) → first_refusal (refusals s (statement.Retrieve None items qual sort)) ≡ None
     → length (targets_of (query_of s (statement.Retrieve None items qual sort))) ≤ 256
-unfolding causes
+unfolding refusals
 few_printed s items qual sort n = few_if q (narrow_targets q (λ (t : Target). t.kind) none.1.1.1.1.0)
   where
     stmt : Statement
@@ -264,12 +264,12 @@ few_printed s items qual sort n = few_if q (narrow_targets q (λ (t : Target). t
     q : Query
     q = query_of s stmt
 
-    none : Each (λ c. c.1 ≡ false) (print_causes s (aggregates_stand s stmt) sort q)
-    none = none_of (print_causes s (aggregates_stand s stmt) sort q) n
+    none : Each (λ c. c.1 ≡ false) (print_refusals s (aggregates_allowed s stmt) sort q)
+    none = none_of (print_refusals s (aggregates_allowed s stmt) sort q) n
 
-few_kept : (s : Scope) (name : List ℕ) (items : List Item) (qual : Qual) (sort : List (List ℕ × Bool)) → first_cause (causes s (statement.Retrieve (Some name) items qual sort)) ≡ None
+few_kept : (s : Scope) (name : List ℕ) (items : List Item) (qual : Qual) (sort : List (List ℕ × Bool)) → first_refusal (refusals s (statement.Retrieve (Some name) items qual sort)) ≡ None
     → length (targets_of (query_of s (statement.Retrieve (Some name) items qual sort))) ≤ 256
-unfolding causes
+unfolding refusals
 few_kept s name items qual sort n = few_if q (narrow_targets q (λ (t : Target). (made_attr t).kind) none.1.1.1.1.1.0)
   where
     stmt : Statement
@@ -278,8 +278,8 @@ few_kept s name items qual sort n = few_if q (narrow_targets q (λ (t : Target).
     q : Query
     q = query_of s stmt
 
-    none : Each (λ c. c.1 ≡ false) (into_causes s (aggregates_stand s stmt) name sort q)
-    none = none_of (into_causes s (aggregates_stand s stmt) name sort q) n
+    none : Each (λ c. c.1 ≡ false) (into_refusals s (aggregates_allowed s stmt) name sort q)
+    none = none_of (into_refusals s (aggregates_allowed s stmt) name sort q) n
 
 no_target : (s : Scope) (rel : List ℕ) (attrs : List (List ℕ × Domain)) → length (targets_of (query_of s (statement.Create rel attrs))) ≤ 256
 unfolding query_of
@@ -301,9 +301,9 @@ none_ruled : (s : Scope) (var : List ℕ) (qual : Qual) → length (targets_of (
 unfolding query_of
 none_ruled s var qual = omega arith
 
-few_viewed : (s : Scope) (name : List ℕ) (items : List Item) (qual : Qual) → first_cause (causes s (statement.View name items qual)) ≡ None
+few_viewed : (s : Scope) (name : List ℕ) (items : List Item) (qual : Qual) → first_refusal (refusals s (statement.View name items qual)) ≡ None
     → length (targets_of (query_of s (statement.View name items qual))) ≤ 256
-unfolding causes
+unfolding refusals
 few_viewed s name items qual n = few_if q (narrow_targets q (λ (t : Target). t.kind) none.1.1.1.1.0)
   where
     stmt : Statement
@@ -312,13 +312,13 @@ few_viewed s name items qual n = few_if q (narrow_targets q (λ (t : Target). t.
     q : Query
     q = query_of s stmt
 
-    none : Each (λ c. c.1 ≡ false) (view_causes s (aggregates_stand s stmt) name q)
-    none = none_of (view_causes s (aggregates_stand s stmt) name q) n
+    none : Each (λ c. c.1 ≡ false) (view_refusals s (aggregates_allowed s stmt) name q)
+    none = none_of (view_refusals s (aggregates_allowed s stmt) name q) n
 
 -- such a statement has few targets, where no cause refuses it
-pub few_targets : (s : Scope) (stmt : Statement) → is_judged stmt ≡ true → is_range stmt ≡ false → None ≡ update_of s stmt (query_of s stmt) → first_cause (causes s stmt) ≡ None
+pub few_targets : (s : Scope) (stmt : Statement) → is_checked stmt ≡ true → is_range stmt ≡ false → None ≡ update_of s stmt (query_of s stmt) → first_refusal (refusals s stmt) ≡ None
     → length (targets_of (query_of s stmt)) ≤ 256
-unfolding causes
+unfolding refusals
 few_targets s (statement.Append rel items qual) w h k n = absurd (cc k)
 few_targets s (statement.Replace var items qual) w h k n = absurd (cc k)
 few_targets s (statement.Delete var qual) w h k n = absurd (cc k)
@@ -381,8 +381,8 @@ range_asks_nothing s (statement.View name items qual) h = absurd (cc h)
 range_asks_nothing s (statement.Permit ops var attrs user qual) h = absurd (cc h)
 range_asks_nothing s (statement.Rule var qual) h = absurd (cc h)
 
-pub range_passes : (s : Scope) (stmt : Statement) → is_range stmt ≡ true → first_cause (causes s stmt) ≡ None
-unfolding causes
+pub range_passes : (s : Scope) (stmt : Statement) → is_range stmt ≡ true → first_refusal (refusals s stmt) ≡ None
+unfolding refusals
 range_passes s (statement.Range var rel) h = refl
 range_passes s (statement.Retrieve into items qual sort) h = absurd (cc h)
 range_passes s (statement.Append rel items qual) h = absurd (cc h)

@@ -1,6 +1,6 @@
 pub mod BySchema
 pub mod Changes
-pub mod NotServed
+pub mod WithQuery
 pub mod Overs
 pub mod Passing
 pub mod Resolved

@@ -14,7 +14,7 @@ use Rattle.quel_check.specs.Known.{Knows, inner_vars, is_among, are_among, is_ov
 use Rattle.quel_check.proofs.Among.{all_into, inner_many, kept, over_inner, themselves}
 use Rattle.quel_check.proofs.InnerForms.{length_joined}
 use Rattle.quel_check.proofs.TreeForms.{both_so}
-use Rattle.quel_meaning.specs.Aggregates.{aggregates_stand}
+use Rattle.quel_meaning.specs.Aggregates.{aggregates_allowed}
 use Rattle.quel_meaning.specs.Scope.{Scope}
 use Rattle.quel_meaning.specs.WrittenParts.{once, vars_in, first_vars, outer_vars_in_item, outer_vars_in_qual, items_of, where_of, text_aggregates, aggregates_in_item, aggregates_in_qual}
 use Rattle.quel_meaning.specs.WrittenTree.{Vars, key_over}
@@ -56,12 +56,12 @@ sound_each vars inner (i ∷ items) h over =
     let stand = both_so _ _ (sym (list_all-append (is_over inner) (aggregates_in_item i) (flat_map aggregates_in_item items)) ∙ over) in
     both _ _ (both _ _ among.0 stand.0) (sound_each vars inner items among.1 stand.1)
 
-items_sound : (scope : Scope) (s : Statement) → aggregates_stand scope s ≡ true → list_all (is_sound (vars_in s) (inner_vars s)) (items_of s) ≡ true
+items_sound : (scope : Scope) (s : Statement) → aggregates_allowed scope s ≡ true → list_all (is_sound (vars_in s) (inner_vars s)) (items_of s) ≡ true
 items_sound scope s stand =
     sound_each (vars_in s) (inner_vars s) (items_of s) (items_among s)
     (both_so _ _ (sym (list_all-append (is_over (inner_vars s)) (flat_map aggregates_in_item (items_of s)) (aggregates_in_qual (where_of s))) ∙ over_inner scope s stand)).0
 
-items_few : (scope : Scope) (s : Statement) → aggregates_stand scope s ≡ true → length (inner_vars s) ≤ 256 → length (flat_map aggregates_in_item (items_of s)) ≤ 65535
+items_few : (scope : Scope) (s : Statement) → aggregates_allowed scope s ≡ true → length (inner_vars s) ≤ 256 → length (flat_map aggregates_in_item (items_of s)) ≤ 65535
 items_few scope s stand few =
     let many : length (inner_vars s) ≡ length (text_aggregates s) = inner_many scope s stand in
     let parts : length (text_aggregates s) ≡ length (flat_map aggregates_in_item (items_of s)) + length (aggregates_in_qual (where_of s)) =
@@ -73,7 +73,7 @@ items_few scope s stand few =
 -- the query of these parts is that of the statement
 pub query_whole : (scope : Scope) (s : Statement) (vars : Vars) (infos : List RelInfo) (inner : Vars) (inner_infos : List RelInfo) (items : List Item) (targets : List Target)
     → items ≡ items_of s → Puts scope.db vars infos inner inner_infos 0 items [] targets → vars ≡ vars_in s → inner ≡ inner_vars s
-    → Knows scope vars infos → Knows scope inner inner_infos → aggregates_stand scope s ≡ true
+    → Knows scope vars infos → Knows scope inner inner_infos → aggregates_allowed scope s ≡ true
     → roll-Query (record { vars = map (λ (info : RelInfo). info.key) infos; targets = targets; qual = where_tree scope s }) ≡ query_of scope s
 unfolding query_of Puts
 query_whole scope s vars infos inner inner_infos items targets ei puts ev en k ki stand =

@@ -1,17 +1,17 @@
 //! What statements ask for: their trees, or the numbers of what refuses them.
 #![tactic(auto)]
 
-mod changing;
-mod judging;
 mod kinds;
 mod known;
 mod pairs;
-mod parts;
 mod places;
 mod queries;
+mod refusing;
 mod resolving;
 mod sorting;
+mod statement_updates;
 mod stored;
+mod target_list;
 mod targets;
 mod trees;
 mod updates;

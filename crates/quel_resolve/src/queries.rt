@@ -2,11 +2,11 @@
 
 ghost use Rattle.std.specs.Prelude.{◌≡◌, ◌+◌, ◌≤◌, ℕ, List, Some, None, true, length, map, nat_lt};
 ghost use Rattle.calculus.specs.Database.{Db};
-ghost use Rattle.calculus.specs.Replacement.{first_cause};
-ghost use Rattle.quel_refusals.specs.Judged.{is_judged};
+ghost use Rattle.calculus.specs.Replacement.{first_refusal};
+ghost use Rattle.quel_refusals.specs.CheckedStatements.{is_checked};
 ghost use Rattle.quel_check.specs.Known.{inner_vars};
-ghost use Rattle.quel_meaning.specs.Aggregates.{aggregates_stand};
-ghost use Rattle.quel_meaning.specs.Causes.{causes};
+ghost use Rattle.quel_meaning.specs.Aggregates.{aggregates_allowed};
+ghost use Rattle.quel_meaning.specs.Causes.{refusals};
 ghost use Rattle.quel_meaning.specs.Naming.{name_refusal};
 ghost use Rattle.quel_meaning.specs.Scope.{ranged};
 ghost use Rattle.quel_meaning.specs.WrittenParts.{vars_in};
@@ -16,13 +16,13 @@ ghost use Rattle.utility_trees.specs.Answers.{Says};
 ghost use Rattle.utility_trees.specs.Causes.{HasCheckCause};
 
 use crate::query_of;
-use am_traits::Base;
+use base_trait::Base;
 use calculus::limits::MOST_VARIABLES;
 use calculus::refusals::{AGGREGATE, NO_RELATION, PAST_LIMIT};
 use calculus::{Name, Query, RelInfo, Statement};
 use quel_check::{Known, RangeTable, inner_vars, vars_in};
 use quel_names::infos_of;
-use quel_refusals::aggregates_stand;
+use quel_refusals::aggregates_allowed;
 use std::alloc::Global;
 use utility_trees::CheckFault;
 
@@ -37,9 +37,9 @@ fn query_known<B: Base>(
     infos: &[RelInfo],
     inner: &[Name],
 ) -> Result<Query, CheckFault>
-    ensures told { (db : Db) (user : List ℕ) → B.schema base.old ≡ Some db → name_refusal (scope_of db user ranges.now) s.now ≡ None → aggregates_stand (scope_of db user ranges.now) s.now ≡ true
+    ensures known { (db : Db) (user : List ℕ) → B.schema base.old ≡ Some db → name_refusal (scope_of db user ranges.now) s.now ≡ None → aggregates_allowed (scope_of db user ranges.now) s.now ≡ true
         → vars.now ≡ vars_in s.now → inner.now ≡ inner_vars s.now → length vars.now + length inner.now ≤ 10 → map (ranged (scope_of db user ranges.now)) vars.now ≡ map Some infos.now
-        → Says (λ q. q ≡ query_of (scope_of db user ranges.now) s.now) (λ number. first_cause (causes (scope_of db user ranges.now) s.now) ≡ Some number) result }
+        → Says (λ q. q ≡ query_of (scope_of db user ranges.now) s.now) (λ number. first_refusal (refusals (scope_of db user ranges.now) s.now) ≡ Some number) result }
     ensures kept { B.database base.new ≡ B.database base.old }
     ensures stays { (s : Db) → B.schema base.old ≡ Some s → B.schema base.new ≡ Some s }
     ensures asked { (b : B) → B.asked b base.old → B.asked b base.new }
@@ -71,9 +71,9 @@ fn query_over<B: Base>(
     vars: &[Name],
     inner: &[Name],
 ) -> Result<Query, CheckFault>
-    ensures told { (db : Db) (user : List ℕ) → B.schema base.old ≡ Some db → name_refusal (scope_of db user ranges.now) s.now ≡ None → aggregates_stand (scope_of db user ranges.now) s.now ≡ true
+    ensures known { (db : Db) (user : List ℕ) → B.schema base.old ≡ Some db → name_refusal (scope_of db user ranges.now) s.now ≡ None → aggregates_allowed (scope_of db user ranges.now) s.now ≡ true
         → vars.now ≡ vars_in s.now → inner.now ≡ inner_vars s.now → length vars.now + length inner.now ≤ 10
-        → Says (λ q. q ≡ query_of (scope_of db user ranges.now) s.now) (λ number. first_cause (causes (scope_of db user ranges.now) s.now) ≡ Some number) result }
+        → Says (λ q. q ≡ query_of (scope_of db user ranges.now) s.now) (λ number. first_refusal (refusals (scope_of db user ranges.now) s.now) ≡ Some number) result }
     ensures kept { B.database base.new ≡ B.database base.old }
     ensures stays { (s : Db) → B.schema base.old ≡ Some s → B.schema base.new ≡ Some s }
     ensures asked { (b : B) → B.asked b base.old → B.asked b base.new }
@@ -107,9 +107,9 @@ fn query_within<B: Base>(
     vars: &[Name],
     inner: &[Name],
 ) -> Result<Query, CheckFault>
-    ensures told { (db : Db) (user : List ℕ) → B.schema base.old ≡ Some db → name_refusal (scope_of db user ranges.now) s.now ≡ None → is_judged s.now ≡ true → aggregates_stand (scope_of db user ranges.now) s.now ≡ true
+    ensures known { (db : Db) (user : List ℕ) → B.schema base.old ≡ Some db → name_refusal (scope_of db user ranges.now) s.now ≡ None → is_checked s.now ≡ true → aggregates_allowed (scope_of db user ranges.now) s.now ≡ true
         → vars.now ≡ vars_in s.now → inner.now ≡ inner_vars s.now
-        → Says (λ q. q ≡ query_of (scope_of db user ranges.now) s.now) (λ number. first_cause (causes (scope_of db user ranges.now) s.now) ≡ Some number) result }
+        → Says (λ q. q ≡ query_of (scope_of db user ranges.now) s.now) (λ number. first_refusal (refusals (scope_of db user ranges.now) s.now) ≡ Some number) result }
     ensures kept { B.database base.new ≡ B.database base.old }
     ensures stays { (s : Db) → B.schema base.old ≡ Some s → B.schema base.new ≡ Some s }
     ensures asked { (b : B) → B.asked b base.old → B.asked b base.new }
@@ -130,9 +130,9 @@ fn query_beside<B: Base>(
     s: &Statement,
     vars: &[Name],
 ) -> Result<Query, CheckFault>
-    ensures told { (db : Db) (user : List ℕ) → B.schema base.old ≡ Some db → name_refusal (scope_of db user ranges.now) s.now ≡ None → is_judged s.now ≡ true → aggregates_stand (scope_of db user ranges.now) s.now ≡ true
+    ensures known { (db : Db) (user : List ℕ) → B.schema base.old ≡ Some db → name_refusal (scope_of db user ranges.now) s.now ≡ None → is_checked s.now ≡ true → aggregates_allowed (scope_of db user ranges.now) s.now ≡ true
         → vars.now ≡ vars_in s.now
-        → Says (λ q. q ≡ query_of (scope_of db user ranges.now) s.now) (λ number. first_cause (causes (scope_of db user ranges.now) s.now) ≡ Some number) result }
+        → Says (λ q. q ≡ query_of (scope_of db user ranges.now) s.now) (λ number. first_refusal (refusals (scope_of db user ranges.now) s.now) ≡ Some number) result }
     ensures kept { B.database base.new ≡ B.database base.old }
     ensures stays { (s : Db) → B.schema base.old ≡ Some s → B.schema base.new ≡ Some s }
     ensures asked { (b : B) → B.asked b base.old → B.asked b base.new }
@@ -152,8 +152,8 @@ fn query_standing<B: Base>(
     ranges: &RangeTable,
     s: &Statement,
 ) -> Result<Query, CheckFault>
-    ensures told { (db : Db) (user : List ℕ) → B.schema base.old ≡ Some db → name_refusal (scope_of db user ranges.now) s.now ≡ None → is_judged s.now ≡ true → aggregates_stand (scope_of db user ranges.now) s.now ≡ true
-        → Says (λ q. q ≡ query_of (scope_of db user ranges.now) s.now) (λ number. first_cause (causes (scope_of db user ranges.now) s.now) ≡ Some number) result }
+    ensures known { (db : Db) (user : List ℕ) → B.schema base.old ≡ Some db → name_refusal (scope_of db user ranges.now) s.now ≡ None → is_checked s.now ≡ true → aggregates_allowed (scope_of db user ranges.now) s.now ≡ true
+        → Says (λ q. q ≡ query_of (scope_of db user ranges.now) s.now) (λ number. first_refusal (refusals (scope_of db user ranges.now) s.now) ≡ Some number) result }
     ensures kept { B.database base.new ≡ B.database base.old }
     ensures stays { (s : Db) → B.schema base.old ≡ Some s → B.schema base.new ≡ Some s }
     ensures asked { (b : B) → B.asked b base.old → B.asked b base.new }
@@ -165,7 +165,7 @@ fn query_standing<B: Base>(
     query
 }
 
-/// The query of a statement that isn't served without one and whose names were found; where an aggregate
+/// The query of a statement that needs a query and whose names were found; where an aggregate
 /// may not stand, or there are more variables and aggregates than a query may have, the number that
 /// refuses it.
 #[tactic(auto, using(crate::proofs::Passing::stands_not))]
@@ -175,14 +175,14 @@ pub(crate) fn query<B: Base>(
     ranges: &RangeTable,
     s: &Statement,
 ) -> Result<Query, CheckFault>
-    ensures told { (db : Db) (user : List ℕ) → B.schema base.old ≡ Some db → name_refusal (scope_of db user ranges.now) s.now ≡ None → is_judged s.now ≡ true
-        → Says (λ q. (q ≡ query_of (scope_of db user ranges.now) s.now) × (aggregates_stand (scope_of db user ranges.now) s.now ≡ true)) (λ number. first_cause (causes (scope_of db user ranges.now) s.now) ≡ Some number) result }
+    ensures known { (db : Db) (user : List ℕ) → B.schema base.old ≡ Some db → name_refusal (scope_of db user ranges.now) s.now ≡ None → is_checked s.now ≡ true
+        → Says (λ q. (q ≡ query_of (scope_of db user ranges.now) s.now) × (aggregates_allowed (scope_of db user ranges.now) s.now ≡ true)) (λ number. first_refusal (refusals (scope_of db user ranges.now) s.now) ≡ Some number) result }
     ensures kept { B.database base.new ≡ B.database base.old }
     ensures stays { (s : Db) → B.schema base.old ≡ Some s → B.schema base.new ≡ Some s }
     ensures asked { (b : B) → B.asked b base.old → B.asked b base.new }
     ensures cause { HasCheckCause (B.database base.old) (B.faults base.old) (B.faults base.new) result }
 {
-    if aggregates_stand(alloc, base, ranges, s)? {
+    if aggregates_allowed(alloc, base, ranges, s)? {
         query_standing(alloc, base, ranges, s)
     } else {
         Err(CheckFault::No(AGGREGATE))

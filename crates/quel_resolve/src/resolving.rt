@@ -8,12 +8,12 @@ ghost use Rattle.quel_resolve.specs.Answers.{Resolves};
 ghost use Rattle.utility_trees.specs.Causes.{HasCheckCause};
 
 use crate::trees::tree;
-use am_traits::Base;
+use base_trait::Base;
 use calculus::{Checked, Name, Statement};
 use quel_check::RangeTable;
 use quel_names::name_refusal;
 use std::alloc::Global;
-use utility_trees::{CheckFault, is_served, served};
+use utility_trees::{CheckFault, needs_no_query, tree_without_query};
 
 /// What a statement asks for whose names were found.
 fn resolve_named<B: Base>(
@@ -23,14 +23,14 @@ fn resolve_named<B: Base>(
     ranges: &RangeTable,
     base: &mut B,
 ) -> Result<Checked, CheckFault>
-    ensures told { (db : Db) → B.schema base.old ≡ Some db → name_refusal (scope_of db user.now ranges.now) s.now ≡ None → Resolves db user.now ranges.now s.now result }
+    ensures known { (db : Db) → B.schema base.old ≡ Some db → name_refusal (scope_of db user.now ranges.now) s.now ≡ None → Resolves db user.now ranges.now s.now result }
     ensures kept { B.database base.new ≡ B.database base.old }
     ensures stays { (s : Db) → B.schema base.old ≡ Some s → B.schema base.new ≡ Some s }
     ensures asked { (b : B) → B.asked b base.old → B.asked b base.new }
     ensures cause { HasCheckCause (B.database base.old) (B.faults base.old) (B.faults base.new) result }
 {
-    if is_served(s) {
-        served(alloc, base, user, s)
+    if needs_no_query(s) {
+        tree_without_query(alloc, base, user, s)
     } else {
         tree(alloc, base, user, ranges, s)
     }
@@ -44,7 +44,7 @@ fn resolve_known<B: Base>(
     ranges: &RangeTable,
     base: &mut B,
 ) -> Result<Checked, CheckFault>
-    ensures told { (db : Db) → B.schema base.old ≡ Some db → Resolves db user.now ranges.now s.now result }
+    ensures known { (db : Db) → B.schema base.old ≡ Some db → Resolves db user.now ranges.now s.now result }
     ensures kept { B.database base.new ≡ B.database base.old }
     ensures stays { (s : Db) → B.schema base.old ≡ Some s → B.schema base.new ≡ Some s }
     ensures asked { (b : B) → B.asked b base.old → B.asked b base.new }
@@ -68,7 +68,7 @@ pub fn resolve<B: Base>(
     ranges: &RangeTable,
     base: &mut B,
 ) -> Result<Checked, CheckFault>
-    ensures told { (db : Db) → B.schema base.old ≡ Some db → Resolves db user.now ranges.now s.now result }
+    ensures known { (db : Db) → B.schema base.old ≡ Some db → Resolves db user.now ranges.now s.now result }
     ensures by_schema { IsTrue B.fixes → (db : Db) → B.schema base.new ≡ Some db → Resolves db user.now ranges.now s.now result }
     ensures kept { B.database base.new ≡ B.database base.old }
     ensures stays { (s : Db) → B.schema base.old ≡ Some s → B.schema base.new ≡ Some s }

@@ -1,7 +1,7 @@
 //! The targets of a target list.
 
 ghost use Rattle.std.specs.Prelude.{◌≡◌, ◌≤◌, ℕ, [], ◌∷◌, ◌++◌, length, map, slice_get, unwrap_or, vec_items, All, IfOk, OnOk, Some};
-ghost use Rattle.am_traits.specs.Causes.{HasCause};
+ghost use Rattle.base_trait.specs.Causes.{HasCause};
 ghost use Rattle.calculus.specs.declared.query.QTerm.TheVariants as qterm;
 ghost use Rattle.calculus.specs.declared.statement.Item.TheVariants as item;
 ghost use Rattle.calculus.specs.declared.statement.Term.TheVariants as written;
@@ -13,7 +13,7 @@ ghost use Rattle.quel_meaning.specs.WrittenQuery.{attr_targets};
 ghost use Rattle.quel_resolve.specs.Targets.{Puts, kinds_in};
 
 use crate::places::{byte, var_place};
-use am_traits::{Base, BaseFault};
+use base_trait::{Base, BaseFault};
 use calculus::{Attr, Item, Kind, Name, OutOfMemory, QTerm, RelInfo, Target, Term, TryCopy};
 use memory::{both, push};
 use quel_check::{Known, slot_behind_item, term_tree_from};
@@ -28,7 +28,7 @@ fn target<B: Base>(
     term: QTerm,
     kinds: &[Vec<Kind>],
 ) -> Result<Target, BaseFault>
-    ensures told { (db : Db) → B.schema base.old ≡ Some db
+    ensures known { (db : Db) → B.schema base.old ≡ Some db
         → IfOk result (λ made. made ≡ record { name = name; kind = unwrap_or (kind_in_query db term (map vec_items kinds.now)) Wide; term = term }) }
     ensures kept { B.database base.new ≡ B.database base.old }
     ensures stays { (s : Db) → B.schema base.old ≡ Some s → B.schema base.new ≡ Some s }
@@ -62,7 +62,7 @@ fn push_term<B: Base>(
     targets: &mut Vec<Target>,
 ) -> Result<(), BaseFault>
     requires { map vec_items kinds.now ≡ kinds_in known.infos.now }
-    ensures told { (db : Db) → B.schema base.old ≡ Some db
+    ensures known { (db : Db) → B.schema base.old ≡ Some db
         → OnOk result (Puts db known.entry.vars.now known.entry.infos.now known.entry.inner_vars.now known.entry.inner_infos.now slot (item.Set name.now term.now ∷ []) targets.old.items targets.new.items) }
     ensures kept { B.database base.new ≡ B.database base.old }
     ensures stays { (s : Db) → B.schema base.old ≡ Some s → B.schema base.new ≡ Some s }
@@ -151,7 +151,7 @@ fn push_attr<B: Base>(
     targets: &mut Vec<Target>,
 ) -> Result<(), BaseFault>
     requires { map vec_items kinds.now ≡ kinds_in known.infos.now }
-    ensures told { (db : Db) (slot : ℕ) → B.schema base.old ≡ Some db
+    ensures known { (db : Db) (slot : ℕ) → B.schema base.old ≡ Some db
         → OnOk result (Puts db known.entry.vars.now known.entry.infos.now known.entry.inner_vars.now known.entry.inner_infos.now slot (item.Attr var.now attr.now ∷ []) targets.old.items targets.new.items) }
     ensures kept { B.database base.new ≡ B.database base.old }
     ensures stays { (s : Db) → B.schema base.old ≡ Some s → B.schema base.new ≡ Some s }
@@ -175,7 +175,7 @@ fn push_item<B: Base>(
     targets: &mut Vec<Target>,
 ) -> Result<(), BaseFault>
     requires { map vec_items kinds.now ≡ kinds_in known.infos.now }
-    ensures told { (db : Db) → B.schema base.old ≡ Some db
+    ensures known { (db : Db) → B.schema base.old ≡ Some db
         → OnOk result (Puts db known.entry.vars.now known.entry.infos.now known.entry.inner_vars.now known.entry.inner_infos.now slot (item.now ∷ []) targets.old.items targets.new.items) }
     ensures kept { B.database base.new ≡ B.database base.old }
     ensures stays { (s : Db) → B.schema base.old ≡ Some s → B.schema base.new ≡ Some s }
@@ -201,7 +201,7 @@ pub(crate) fn targets_from<B: Base>(
     items: &[Item],
 ) -> Result<Vec<Target>, BaseFault>
     requires { map vec_items kinds.now ≡ kinds_in known.infos.now }
-    ensures told { (db : Db) → B.schema base.old ≡ Some db
+    ensures known { (db : Db) → B.schema base.old ≡ Some db
         → IfOk result (λ targets. Puts db known.entry.vars.now known.entry.infos.now known.entry.inner_vars.now known.entry.inner_infos.now 0 items.now [] targets.items) }
     ensures kept { B.database base.new ≡ B.database base.old }
     ensures stays { (s : Db) → B.schema base.old ≡ Some s → B.schema base.new ≡ Some s }

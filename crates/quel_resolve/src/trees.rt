@@ -3,11 +3,11 @@
 ghost use Rattle.std.specs.Prelude.{◌≡◌, ℕ, [], Option, Some, None, true, false, option_copied};
 ghost use Rattle.calculus.specs.IsDatabase.{IsDatabase};
 ghost use Rattle.calculus.specs.Database.{Db};
-ghost use Rattle.calculus.specs.Replacement.{first_cause};
+ghost use Rattle.calculus.specs.Replacement.{first_refusal};
 ghost use Rattle.calculus.specs.declared.request.Checked.TheVariants.{Answer};
-ghost use Rattle.quel_refusals.specs.Judged.{is_judged, update_of};
-ghost use Rattle.quel_meaning.specs.Aggregates.{aggregates_stand};
-ghost use Rattle.quel_meaning.specs.Causes.{causes};
+ghost use Rattle.quel_refusals.specs.CheckedStatements.{is_checked, update_of};
+ghost use Rattle.quel_meaning.specs.Aggregates.{aggregates_allowed};
+ghost use Rattle.quel_meaning.specs.Causes.{refusals};
 ghost use Rattle.quel_meaning.specs.Naming.{name_refusal};
 ghost use Rattle.quel_meaning.specs.Resolved.{tree_of};
 ghost use Rattle.quel_meaning.specs.Scope.{Scope};
@@ -18,12 +18,12 @@ ghost use Rattle.quel_resolve.specs.Kinds.{changes_rows, is_range};
 ghost use Rattle.utility_trees.specs.Answers.{Says};
 ghost use Rattle.utility_trees.specs.Causes.{HasCheckCause, IsCaused};
 
-use crate::changing::{changed, update_of};
-use crate::judging::{judge, judge_update};
 use crate::kinds::{changes_rows, is_range};
 use crate::queries::query;
+use crate::refusing::{unless_refused, update_unless_refused};
+use crate::statement_updates::{changed, update_of};
 use crate::tree_by;
-use am_traits::Base;
+use base_trait::Base;
 use calculus::refusals::NO_RELATION;
 use calculus::{Checked, List, Name, Query, RelInfo, Statement};
 use quel_check::RangeTable;
@@ -39,15 +39,15 @@ fn updated<B: Base>(
     info: &RelInfo,
     q: Query,
 ) -> Result<Checked, CheckFault>
-    ensures told { (scope : Scope) → B.schema base.old ≡ Some scope.db → scope.user ≡ user.now → q ≡ query_of scope s.now → changed scope s.now ≡ Some info.now → changes_rows s.now ≡ true → is_judged s.now ≡ true → aggregates_stand scope s.now ≡ true
-        → Says (λ tree. (tree ≡ tree_of scope s.now) × (first_cause (causes scope s.now) ≡ None)) (λ number. first_cause (causes scope s.now) ≡ Some number) result }
+    ensures known { (scope : Scope) → B.schema base.old ≡ Some scope.db → scope.user ≡ user.now → q ≡ query_of scope s.now → changed scope s.now ≡ Some info.now → changes_rows s.now ≡ true → is_checked s.now ≡ true → aggregates_allowed scope s.now ≡ true
+        → Says (λ tree. (tree ≡ tree_of scope s.now) × (first_refusal (refusals scope s.now) ≡ None)) (λ number. first_refusal (refusals scope s.now) ≡ Some number) result }
     ensures kept { B.database base.new ≡ B.database base.old }
     ensures stays { (s : Db) → B.schema base.old ≡ Some s → B.schema base.new ≡ Some s }
     ensures asked { (b : B) → B.asked b base.old → B.asked b base.new }
     ensures cause { HasCheckCause (B.database base.old) (B.faults base.old) (B.faults base.new) result }
 {
     match update_of(alloc, s, info, q)? {
-        Some(update) => judge_update(alloc, base, user, s, update),
+        Some(update) => update_unless_refused(alloc, base, user, s, update),
         None => Err(CheckFault::No(NO_RELATION)),
     }
 }
@@ -60,9 +60,9 @@ fn asked(
     on: Option<&RelInfo>,
     q: Query,
 ) -> Result<Checked, CheckFault>
-    ensures told { (scope : Scope) → IsDatabase scope.db → scope.user ≡ user.now → q ≡ query_of scope s.now → None ≡ update_of scope s.now q → changed scope s.now ≡ option_copied on.entry → has_tree s.now (option_copied on.entry) ≡ true → is_judged s.now ≡ true → is_range s.now ≡ false → first_cause (causes scope s.now) ≡ None
-        → Says (λ tree. (tree ≡ tree_of scope s.now) × (first_cause (causes scope s.now) ≡ None)) (λ number. first_cause (causes scope s.now) ≡ Some number) result }
-    ensures no_fault { (told : Option Db) (before now : ℕ) → now ≡ before → IsCaused told before now result }
+    ensures known { (scope : Scope) → IsDatabase scope.db → scope.user ≡ user.now → q ≡ query_of scope s.now → None ≡ update_of scope s.now q → changed scope s.now ≡ option_copied on.entry → has_tree s.now (option_copied on.entry) ≡ true → is_checked s.now ≡ true → is_range s.now ≡ false → first_refusal (refusals scope s.now) ≡ None
+        → Says (λ tree. (tree ≡ tree_of scope s.now) × (first_refusal (refusals scope s.now) ≡ None)) (λ number. first_refusal (refusals scope s.now) ≡ Some number) result }
+    ensures no_fault { (known : Option Db) (before now : ℕ) → now ≡ before → IsCaused known before now result }
 {
     match tree_by(alloc, user, s, q, on)? {
         Some(tree) => Ok(tree),
@@ -81,14 +81,14 @@ fn made<B: Base>(
     on: Option<&RelInfo>,
     q: Query,
 ) -> Result<Checked, CheckFault>
-    ensures told { (scope : Scope) → B.schema base.old ≡ Some scope.db → scope.user ≡ user.now → q ≡ query_of scope s.now → None ≡ update_of scope s.now q → changed scope s.now ≡ option_copied on.entry → has_tree s.now (option_copied on.entry) ≡ true → is_judged s.now ≡ true → aggregates_stand scope s.now ≡ true → is_range s.now ≡ false
-        → Says (λ tree. (tree ≡ tree_of scope s.now) × (first_cause (causes scope s.now) ≡ None)) (λ number. first_cause (causes scope s.now) ≡ Some number) result }
+    ensures known { (scope : Scope) → B.schema base.old ≡ Some scope.db → scope.user ≡ user.now → q ≡ query_of scope s.now → None ≡ update_of scope s.now q → changed scope s.now ≡ option_copied on.entry → has_tree s.now (option_copied on.entry) ≡ true → is_checked s.now ≡ true → aggregates_allowed scope s.now ≡ true → is_range s.now ≡ false
+        → Says (λ tree. (tree ≡ tree_of scope s.now) × (first_refusal (refusals scope s.now) ≡ None)) (λ number. first_refusal (refusals scope s.now) ≡ Some number) result }
     ensures kept { B.database base.new ≡ B.database base.old }
     ensures stays { (s : Db) → B.schema base.old ≡ Some s → B.schema base.new ≡ Some s }
     ensures asked { (b : B) → B.asked b base.old → B.asked b base.new }
     ensures cause { HasCheckCause (B.database base.old) (B.faults base.old) (B.faults base.new) result }
 {
-    match judge(alloc, base, user, s, &q, None, on) {
+    match unless_refused(alloc, base, user, s, &q, None, on) {
         Ok(()) => asked(alloc, user, s, on, q),
         Err(fault) => {
             drop(q);
@@ -106,8 +106,8 @@ fn changing<B: Base>(
     info: &RelInfo,
     q: Query,
 ) -> Result<Checked, CheckFault>
-    ensures told { (scope : Scope) → B.schema base.old ≡ Some scope.db → scope.user ≡ user.now → q ≡ query_of scope s.now → changed scope s.now ≡ Some info.now → is_judged s.now ≡ true → aggregates_stand scope s.now ≡ true → is_range s.now ≡ false
-        → Says (λ tree. (tree ≡ tree_of scope s.now) × (first_cause (causes scope s.now) ≡ None)) (λ number. first_cause (causes scope s.now) ≡ Some number) result }
+    ensures known { (scope : Scope) → B.schema base.old ≡ Some scope.db → scope.user ≡ user.now → q ≡ query_of scope s.now → changed scope s.now ≡ Some info.now → is_checked s.now ≡ true → aggregates_allowed scope s.now ≡ true → is_range s.now ≡ false
+        → Says (λ tree. (tree ≡ tree_of scope s.now) × (first_refusal (refusals scope s.now) ≡ None)) (λ number. first_refusal (refusals scope s.now) ≡ Some number) result }
     ensures kept { B.database base.new ≡ B.database base.old }
     ensures stays { (s : Db) → B.schema base.old ≡ Some s → B.schema base.new ≡ Some s }
     ensures asked { (b : B) → B.asked b base.old → B.asked b base.new }
@@ -130,8 +130,8 @@ fn tree_over<B: Base>(
     changes: Option<RelInfo>,
     q: Query,
 ) -> Result<Checked, CheckFault>
-    ensures told { (db : Db) → B.schema base.old ≡ Some db → q ≡ query_of (scope_of db user.now ranges.now) s.now → name_refusal (scope_of db user.now ranges.now) s.now ≡ None → is_judged s.now ≡ true → aggregates_stand (scope_of db user.now ranges.now) s.now ≡ true → is_range s.now ≡ false → changes ≡ changed (scope_of db user.now ranges.now) s.now
-        → Says (λ tree. (tree ≡ tree_of (scope_of db user.now ranges.now) s.now) × (first_cause (causes (scope_of db user.now ranges.now) s.now) ≡ None)) (λ number. first_cause (causes (scope_of db user.now ranges.now) s.now) ≡ Some number) result }
+    ensures known { (db : Db) → B.schema base.old ≡ Some db → q ≡ query_of (scope_of db user.now ranges.now) s.now → name_refusal (scope_of db user.now ranges.now) s.now ≡ None → is_checked s.now ≡ true → aggregates_allowed (scope_of db user.now ranges.now) s.now ≡ true → is_range s.now ≡ false → changes ≡ changed (scope_of db user.now ranges.now) s.now
+        → Says (λ tree. (tree ≡ tree_of (scope_of db user.now ranges.now) s.now) × (first_refusal (refusals (scope_of db user.now ranges.now) s.now) ≡ None)) (λ number. first_refusal (refusals (scope_of db user.now ranges.now) s.now) ≡ Some number) result }
     ensures kept { B.database base.new ≡ B.database base.old }
     ensures stays { (s : Db) → B.schema base.old ≡ Some s → B.schema base.new ≡ Some s }
     ensures asked { (b : B) → B.asked b base.old → B.asked b base.new }
@@ -152,8 +152,8 @@ fn tree_with<B: Base>(
     s: &Statement,
     q: Query,
 ) -> Result<Checked, CheckFault>
-    ensures told { (db : Db) → B.schema base.old ≡ Some db → q ≡ query_of (scope_of db user.now ranges.now) s.now → name_refusal (scope_of db user.now ranges.now) s.now ≡ None → is_judged s.now ≡ true → aggregates_stand (scope_of db user.now ranges.now) s.now ≡ true → is_range s.now ≡ false
-        → Says (λ tree. (tree ≡ tree_of (scope_of db user.now ranges.now) s.now) × (first_cause (causes (scope_of db user.now ranges.now) s.now) ≡ None)) (λ number. first_cause (causes (scope_of db user.now ranges.now) s.now) ≡ Some number) result }
+    ensures known { (db : Db) → B.schema base.old ≡ Some db → q ≡ query_of (scope_of db user.now ranges.now) s.now → name_refusal (scope_of db user.now ranges.now) s.now ≡ None → is_checked s.now ≡ true → aggregates_allowed (scope_of db user.now ranges.now) s.now ≡ true → is_range s.now ≡ false
+        → Says (λ tree. (tree ≡ tree_of (scope_of db user.now ranges.now) s.now) × (first_refusal (refusals (scope_of db user.now ranges.now) s.now) ≡ None)) (λ number. first_refusal (refusals (scope_of db user.now ranges.now) s.now) ≡ Some number) result }
     ensures kept { B.database base.new ≡ B.database base.old }
     ensures stays { (s : Db) → B.schema base.old ≡ Some s → B.schema base.new ≡ Some s }
     ensures asked { (b : B) → B.asked b base.old → B.asked b base.new }
@@ -184,8 +184,8 @@ pub(crate) fn tree<B: Base>(
     ranges: &RangeTable,
     s: &Statement,
 ) -> Result<Checked, CheckFault>
-    ensures told { (db : Db) → B.schema base.old ≡ Some db → name_refusal (scope_of db user.now ranges.now) s.now ≡ None → is_judged s.now ≡ true
-        → Says (λ tree. (tree ≡ tree_of (scope_of db user.now ranges.now) s.now) × (first_cause (causes (scope_of db user.now ranges.now) s.now) ≡ None)) (λ number. first_cause (causes (scope_of db user.now ranges.now) s.now) ≡ Some number) result }
+    ensures known { (db : Db) → B.schema base.old ≡ Some db → name_refusal (scope_of db user.now ranges.now) s.now ≡ None → is_checked s.now ≡ true
+        → Says (λ tree. (tree ≡ tree_of (scope_of db user.now ranges.now) s.now) × (first_refusal (refusals (scope_of db user.now ranges.now) s.now) ≡ None)) (λ number. first_refusal (refusals (scope_of db user.now ranges.now) s.now) ≡ Some number) result }
     ensures kept { B.database base.new ≡ B.database base.old }
     ensures stays { (s : Db) → B.schema base.old ≡ Some s → B.schema base.new ≡ Some s }
     ensures asked { (b : B) → B.asked b base.old → B.asked b base.new }

@@ -1,20 +1,20 @@
 //! The query of a statement.
 
 ghost use Rattle.std.specs.Prelude.{◌≡◌, [], true, map, IfOk, Some};
-ghost use Rattle.am_traits.specs.Causes.{HasCause};
+ghost use Rattle.base_trait.specs.Causes.{HasCause};
 ghost use Rattle.calculus.specs.declared.query.Query.{roll-Query};
 ghost use Rattle.calculus.specs.Database.{Db};
 ghost use Rattle.quel_check.specs.Known.{Knows, inner_vars};
-ghost use Rattle.quel_meaning.specs.Aggregates.{aggregates_stand};
+ghost use Rattle.quel_meaning.specs.Aggregates.{aggregates_allowed};
 ghost use Rattle.quel_meaning.specs.Scope.{Scope};
 ghost use Rattle.quel_meaning.specs.WrittenParts.{vars_in};
 ghost use Rattle.quel_meaning.specs.WrittenQuery.{query_of, where_tree};
 ghost use Rattle.quel_resolve.specs.Targets.{Puts};
 
 use crate::known::{keys_of, kinds_of};
-use crate::parts::items_of;
+use crate::target_list::items_of;
 use crate::targets::targets_from;
-use am_traits::{Base, BaseFault};
+use base_trait::{Base, BaseFault};
 use calculus::{Item, List, OutOfMemory, Query, Statement, Target};
 use memory::both;
 use quel_check::{Known, where_tree_from};
@@ -27,7 +27,7 @@ fn targets_of<B: Base>(
     known: Known<'_>,
     items: &[Item],
 ) -> Result<Vec<Target>, BaseFault>
-    ensures told { (db : Db) → B.schema base.old ≡ Some db
+    ensures known { (db : Db) → B.schema base.old ≡ Some db
         → IfOk result (λ targets. Puts db known.entry.vars.now known.entry.infos.now known.entry.inner_vars.now known.entry.inner_infos.now 0 items.now [] targets.items) }
     ensures kept { B.database base.new ≡ B.database base.old }
     ensures stays { (s : Db) → B.schema base.old ≡ Some s → B.schema base.new ≡ Some s }
@@ -48,7 +48,7 @@ fn query_with(
     targets: Vec<Target>,
 ) -> Result<Query, OutOfMemory>
     ensures { IfOk result (λ q. (scope : Scope) → known.entry.vars.now ≡ vars_in s.now → known.entry.inner_vars.now ≡ inner_vars s.now
-        → Knows scope known.entry.vars.now known.entry.infos.now → Knows scope known.entry.inner_vars.now known.entry.inner_infos.now → aggregates_stand scope s.now ≡ true
+        → Knows scope known.entry.vars.now known.entry.infos.now → Knows scope known.entry.inner_vars.now known.entry.inner_infos.now → aggregates_allowed scope s.now ≡ true
         → q ≡ roll-Query (record { vars = map (λ info. info.key) known.entry.infos.now; targets = targets.items; qual = where_tree scope s.now })) }
 {
     let rest = where_tree_from(alloc, known, s);
@@ -74,8 +74,8 @@ pub fn query_of<B: Base>(
     s: &Statement,
     known: Known<'_>,
 ) -> Result<Query, BaseFault>
-    ensures told { (scope : Scope) → B.schema base.old ≡ Some scope.db → known.entry.vars.now ≡ vars_in s.now → known.entry.inner_vars.now ≡ inner_vars s.now
-        → Knows scope known.entry.vars.now known.entry.infos.now → Knows scope known.entry.inner_vars.now known.entry.inner_infos.now → aggregates_stand scope s.now ≡ true
+    ensures known { (scope : Scope) → B.schema base.old ≡ Some scope.db → known.entry.vars.now ≡ vars_in s.now → known.entry.inner_vars.now ≡ inner_vars s.now
+        → Knows scope known.entry.vars.now known.entry.infos.now → Knows scope known.entry.inner_vars.now known.entry.inner_infos.now → aggregates_allowed scope s.now ≡ true
         → IfOk result (λ q. q ≡ query_of scope s.now) }
     ensures kept { B.database base.new ≡ B.database base.old }
     ensures stays { (s : Db) → B.schema base.old ≡ Some s → B.schema base.new ≡ Some s }

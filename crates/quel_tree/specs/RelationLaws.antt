@@ -1,4 +1,4 @@
--- What is told of relations, and the keys of an order, as bytes: the laws.
+-- What is known of relations, and the keys of an order, as bytes: the laws.
 use Rattle.std.proofs.Common.{inl, inr, refl}
 use Rattle.tree_words.specs.ChoiceLaws.{flag_exact}
 use Rattle.tree_words.specs.Exact.{Exact}

@@ -1,4 +1,4 @@
--- What is told of relations, and the keys of an order, as bytes.
+-- What is known of relations, and the keys of an order, as bytes.
 use Rattle.std.specs.Prelude.{◌⊎◌, List}
 use Rattle.std.proofs.Common.{inl, inr}
 use Rattle.tree_words.specs.Codec.{Codec}

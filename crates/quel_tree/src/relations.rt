@@ -1,4 +1,4 @@
-//! What is told of relations, and the keys of an order, as bytes.
+//! What is known of relations, and the keys of an order, as bytes.
 
 ghost use Rattle.std.specs.Prelude.{◌≡◌};
 ghost use Rattle.quel_tree.specs.Relations.{attr, column, columns, rel_info, rel_key, sort_key, spec};

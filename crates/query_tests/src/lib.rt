@@ -1,4 +1,4 @@
-//! Tests of queries and updates over a base that tells no database.
+//! Tests of queries and updates over a base of which no database is known.
 #![tactic(auto)]
 
 #[cfg(test)]
@@ -7,6 +7,14 @@ mod cases;
 mod conditions;
 #[cfg(test)]
 mod folded;
+#[cfg(test)]
+mod folds;
+#[cfg(test)]
+mod groups;
+#[cfg(test)]
+mod looked_up;
+#[cfg(test)]
+mod one_variable;
 #[cfg(test)]
 mod queries;
 #[cfg(test)]

@@ -1,5 +1,5 @@
 use crate::trees::{alone, rows, tree};
-use am_traits::BaseFault;
+use base_trait::BaseFault;
 use calculus::{Checked, DbChange, Domain, Kind, OutOfMemory, Pair, RowSet, Update};
 use decompose::QueryFault;
 use stage_proc::{NewKinds, PairFault, pairs_of, pairs_over};

@@ -64,13 +64,13 @@ numbered_further number (Some x ∷ xs) = ap (item_before x) (numbered_further (
 
 -- ---- rows
 
-abbrev told : List Kind → List CopyCol → Result (List (List Value)) ℕ → Result (List Row) ℕ
-told kinds columns r = elim r as (λ r. Result (List Row) ℕ) [ Ok values ↦ Ok (map (record_row kinds columns) values) | Err number ↦ Err number ]
+abbrev as_rows : List Kind → List CopyCol → Result (List (List Value)) ℕ → Result (List Row) ℕ
+as_rows kinds columns r = elim r as (λ r. Result (List Row) ℕ) [ Ok values ↦ Ok (map (record_row kinds columns) values) | Err number ↦ Err number ]
 
-told_before : (kinds : List Kind) (columns : List CopyCol) (values : List Value) (r : Result (List (List Value)) ℕ)
-    → told kinds columns (item_before values (further r)) ≡ row_before (record_row kinds columns values) (told kinds columns r)
-told_before kinds columns values (Ok others) = refl
-told_before kinds columns values (Err number) = refl
+known_before : (kinds : List Kind) (columns : List CopyCol) (values : List Value) (r : Result (List (List Value)) ℕ)
+    → as_rows kinds columns (item_before values (further r)) ≡ row_before (record_row kinds columns values) (as_rows kinds columns r)
+known_before kinds columns values (Ok others) = refl
+known_before kinds columns values (Err number) = refl
 
 append-nil : (xs : List ℕ) → xs ++ [] ≡ xs
 append-nil [] = refl
@@ -86,9 +86,9 @@ piece_first : (kinds : List Kind) (columns : List CopyCol) (piece rest : List �
     → rows_in_file kinds columns (piece ++ rest) ≡ row_before (record_row kinds columns values) (rows_in_file kinds columns rest)
 unfolding rows_in_file
 piece_first kinds columns piece rest values some e =
-    ap (λ xs. told kinds columns (numbered_from 1 xs)) (records-cons (record_values kinds columns) values piece rest some e)
-    ∙ ap (λ r. told kinds columns (item_before values r)) (numbered_further 1 (records (record_values kinds columns) 0 rest))
-    ∙ told_before kinds columns values (numbered_from 1 (records (record_values kinds columns) 0 rest))
+    ap (λ xs. as_rows kinds columns (numbered_from 1 xs)) (records-cons (record_values kinds columns) values piece rest some e)
+    ∙ ap (λ r. as_rows kinds columns (item_before values r)) (numbered_further 1 (records (record_values kinds columns) 0 rest))
+    ∙ known_before kinds columns values (numbered_from 1 (records (record_values kinds columns) 0 rest))
 
 pub record_first : (kinds : List Kind) (columns : List CopyCol) (piece rest : List ℕ) (values : List Value)
     → IsTrue (is_any columns) → IsTrue (list_all (λ c. is_copy_form c.form) columns) → IsRecord kinds columns piece values
@@ -109,7 +109,7 @@ ended_last kinds columns piece values some h =
 
 unread_bad : (kinds : List Kind) (columns : List CopyCol) (file : List ℕ) → IsTrue (is_any file) → record_values kinds columns file ≡ None → rows_in_file kinds columns file ≡ Err 1
 unfolding rows_in_file
-unread_bad kinds columns file some e = ap (λ xs. told kinds columns (numbered_from 1 xs)) (records-bad (record_values kinds columns) file some e)
+unread_bad kinds columns file some e = ap (λ xs. as_rows kinds columns (numbered_from 1 xs)) (records-bad (record_values kinds columns) file some e)
 
 pub none_bad : (kinds : List Kind) (columns : List CopyCol) (file : List ℕ) → IsTrue (is_any file) → BeginsWithNone kinds columns file → rows_in_file kinds columns file ≡ Err 1
 none_bad kinds columns file some none = go (record_values kinds columns file) refl

@@ -5,10 +5,10 @@ use Rattle.std.specs.List.Sorted.{IsPermutation}
 use Rattle.std.proofs.lemmas.List.{map-append}
 use Rattle.std.proofs.lemmas.List.Sorted.{IsPermutation-append_right, IsPermutation-map, IsPermutation-sym, IsPermutation-trans}
 use Rattle.std.proofs.lemmas.Option.{none-some}
-use Rattle.access_traits.specs.Causes.{HasFileCause, MayFail}
-use Rattle.am_traits.specs.declared.fault.BaseFault.{BaseFault}
-use Rattle.am_traits.specs.declared.fault.BaseFault.TheVariants.{Disk, Damaged, OutOfMemory}
-use Rattle.access_traits.specs.Placed.{Placed, NowHolds, Replaced, SameButUsed, rows_differ, rows_of}
+use Rattle.am_traits.specs.Causes.{HasFileCause, MayFail}
+use Rattle.base_trait.specs.declared.fault.BaseFault.{BaseFault}
+use Rattle.base_trait.specs.declared.fault.BaseFault.TheVariants.{Disk, Damaged, OutOfMemory}
+use Rattle.am_traits.specs.Placed.{Placed, NowHolds, Replaced, SameButUsed, rows_differ, rows_of}
 use Rattle.calculus.specs.declared.schema.RelFile.{RelFile}
 use Rattle.calculus.specs.Replacement.{with_rows, without_rows}
 use Rattle.calculus.specs.Rows.{Row, has, set_of}
@@ -38,12 +38,12 @@ holds file m rows e = go (placed_on (reader file.domains) file.used (pages_of m 
     go None is e = cc e
     go (Some placed) is e = record { placed = placed; are = is; set = e }
 
-pub has_set : (domains : List Domain) (number : ℕ) (file : RelFile) (m : Image) (placed : Placed) (rows : List Row) (told : Option Image) → told ≡ Some m → file.domains ≡ domains → file.file ≡ number
-    → heap_rows file m ≡ Some placed → once row_cmp (rows_of placed) ≡ Some rows → HasSet domains number file.used rows told
+pub has_set : (domains : List Domain) (number : ℕ) (file : RelFile) (m : Image) (placed : Placed) (rows : List Row) (known : Option Image) → known ≡ Some m → file.domains ≡ domains → file.file ≡ number
+    → heap_rows file m ≡ Some placed → once row_cmp (rows_of placed) ≡ Some rows → HasSet domains number file.used rows known
 unfolding set_on heap_rows
-has_set domains number file m placed rows told there ds same are set = record {
+has_set domains number file m placed rows known there ds same are set = record {
   image = m;
-  told_still = there;
+  still_known = there;
   are = (λ i. placed_on (reader (sym ds i)) file.used (pages_of m (sym same i)) >>= (λ placed. once row_cmp (rows_of placed)))
       ∙ ap (λ (o : Option Placed). o >>= (λ placed. once row_cmp (rows_of placed))) are
       ∙ set;
@@ -68,15 +68,15 @@ rows_replaced before remove add now r =
     (IsPermutation-map (λ p. p.1) now (filter (λ p. not (has remove p.1)) before ++ r.new) r.all))
     (IsPermutation-append_right (without_rows remove (rows_of before)) (rows_of r.new) add (IsPermutation-sym add (rows_of r.new) r.came))
 
--- what is told of a file whose rows are replaced
-abbrev pub Tells : RelFile → RelFile → Image → List Row → List Row → Option Image → Bool → Type 0
-Tells file now m remove add told all =
+-- what is known of a file whose rows are replaced
+abbrev pub IsReplaced : RelFile → RelFile → Image → List Row → List Row → Option Image → Bool → Type 0
+IsReplaced file now m remove add known all =
     (placed : Placed) → heap_rows file m ≡ Some placed → rows_differ (rows_of placed) ≡ true → rows_differ remove ≡ true → All (λ row. IsTrue (has (rows_of placed) row)) remove
-    → IsTrue all × NowHolds (heap_rows now) told (Replaced placed remove add)
+    → IsTrue all × NowHolds (heap_rows now) known (Replaced placed remove add)
 
 -- the rows that go are there, once each
-module _ (file now : RelFile) (m : Image) (rows remove add : List Row) (told : Option Image) (all : Bool) (set : set_on (reader file.domains) file.used (pages_of m file.file) ≡ Some rows)
-    (differ : rows_differ remove ≡ true) (there : All (λ row. IsTrue (has rows row)) remove) (tells : Tells file now m remove add told all) where
+module _ (file now : RelFile) (m : Image) (rows remove add : List Row) (known : Option Image) (all : Bool) (set : set_on (reader file.domains) file.used (pages_of m file.file) ≡ Some rows)
+    (differ : rows_differ remove ≡ true) (there : All (λ row. IsTrue (has rows row)) remove) (replaced : IsReplaced file now m remove add known all) where
   before : Holds file m rows
   before = holds file m rows set
 
@@ -86,18 +86,18 @@ module _ (file now : RelFile) (m : Image) (rows remove add : List Row) (told : O
   same_rows : (q : Row) → has rows q ≡ has (rows_of before.placed) q
   same_rows q = ap (λ s. has s q) (sym was.1) ∙ has-set_of (rows_of before.placed) q
 
-  says : IsTrue all × NowHolds (heap_rows now) told (Replaced before.placed remove add)
-  says = tells before.placed before.are was.0 differ (subst (λ (test : Row → Bool). All (λ row. IsTrue (test row)) remove) (λ i q. same_rows q i) there)
+  says : IsTrue all × NowHolds (heap_rows now) known (Replaced before.placed remove add)
+  says = replaced before.placed before.are was.0 differ (subst (λ (test : Row → Bool). All (λ row. IsTrue (test row)) remove) (λ i q. same_rows q i) there)
 
   -- so they went
   pub all_went : IsTrue all
   all_went = says.0
 
   -- and the set is another
-  pub set_after : SameButUsed file now → rows_differ add ≡ true → list_any (has rows) add ≡ false → HasSet file.domains file.file now.used (with_rows add (without_rows remove rows)) told
+  pub set_after : SameButUsed file now → rows_differ add ≡ true → list_any (has rows) add ≡ false → HasSet file.domains file.file now.used (with_rows add (without_rows remove rows)) known
   set_after same once_come new =
       let h = says.1 in
-      has_set file.domains file.file now h.image h.rows (with_rows add (without_rows remove rows)) told h.told_still same.domains same.file h.are
+      has_set file.domains file.file now h.image h.rows (with_rows add (without_rows remove rows)) known h.still_known same.domains same.file h.are
       (changed_set remove add (rows_of before.placed) (rows_of h.rows) rows before.set once_come new (rows_replaced before.placed remove add h.rows h.so))
 
 -- a page that is at fault is of a file that holds no such set
@@ -106,20 +106,20 @@ holds_none file remove m a fault rows set differ there = let h = holds file m ro
 
 -- ---- a file that is made
 
-pub set_built : (file made : RelFile) (rows : List Row) (told : Option Image) → IsMade file made → rows_differ rows ≡ true → NowHolds (heap_rows made) told (λ placed. rows_of placed ≡ rows)
-    → HasSet file.domains file.file made.used (set_of rows) told
-set_built file made rows told is differ h =
-    has_set file.domains file.file made h.image h.rows (set_of rows) told h.told_still is.domains is.file h.are (ap (once row_cmp) h.so ∙ once_is rows differ)
+pub set_built : (file made : RelFile) (rows : List Row) (known : Option Image) → IsMade file made → rows_differ rows ≡ true → NowHolds (heap_rows made) known (λ placed. rows_of placed ≡ rows)
+    → HasSet file.domains file.file made.used (set_of rows) known
+set_built file made rows known is differ h =
+    has_set file.domains file.file made h.image h.rows (set_of rows) known h.still_known is.domains is.file h.are (ap (once row_cmp) h.so ∙ once_is rows differ)
 
 -- ---- why rows don't go and come
 
 -- a fault of the pages is one of a file that holds no such set
-pub fault_told : {T U : Type 0} (file opened : RelFile) (remove : List Row) (told : Option Image) (before later : ℕ) (s : Result U BaseFault) (e : BaseFault) → opened ≡ file
-    → HasFileCause {T = T} told (HeapFault opened) before later (Err e) → s ≡ Err e → HasFileCause {T = U} told (HasNoneOf file remove) before later s
-fault_told file opened remove told before later s e same h is =
-    subst (HasFileCause told (HasNoneOf file remove) before later) (sym is) (record { later = h.later; caused = by_fault e h.caused })
+pub fault_known : {T U : Type 0} (file opened : RelFile) (remove : List Row) (known : Option Image) (before later : ℕ) (s : Result U BaseFault) (e : BaseFault) → opened ≡ file
+    → HasFileCause {T = T} known (HeapFault opened) before later (Err e) → s ≡ Err e → HasFileCause {T = U} known (HasNoneOf file remove) before later s
+fault_known file opened remove known before later s e same h is =
+    subst (HasFileCause known (HasNoneOf file remove) before later) (sym is) (record { later = h.later; caused = by_fault e h.caused })
   where
-    by_fault : (e : BaseFault) → MayFail told (HeapFault opened) before later e → MayFail told (HasNoneOf file remove) before later e
+    by_fault : (e : BaseFault) → MayFail known (HeapFault opened) before later e → MayFail known (HasNoneOf file remove) before later e
     by_fault Disk h = h
     by_fault (Damaged f p) h = (λ m t. holds_none file remove m (record { file = f; page = p }) (subst (λ file. HeapFault file m (record { file = f; page = p })) same (h.0 m t)), h.1)
     by_fault OutOfMemory h = h

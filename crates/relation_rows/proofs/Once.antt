@@ -9,7 +9,7 @@ use Rattle.std.proofs.lemmas.Bool.Decides.{nat_tests}
 use Rattle.std.proofs.lemmas.List.Folds.{list_any-append}
 use Rattle.std.proofs.lemmas.List.Kept.{IsStrictlySortedBy-filter}
 use Rattle.std.proofs.lemmas.List.Sorted.{list_any-IsPermutation, length_permutation}
-use Rattle.access_traits.specs.Placed.{rows_differ}
+use Rattle.am_traits.specs.Placed.{rows_differ}
 use Rattle.calculus.specs.Lists.{insert_by}
 use Rattle.calculus.specs.Orders.{row_exact}
 use Rattle.calculus.specs.Replacement.{with_rows, without_rows}

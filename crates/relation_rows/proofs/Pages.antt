@@ -3,7 +3,7 @@ use Rattle.std.proofs.Common.{◌≡◌, ◌⊎◌, inl, inr, refl, sym, ap, sub
 use Rattle.std.proofs.lemmas.List.{append-nil, map-append}
 use Rattle.calculus.specs.Rows.{Row}
 use Rattle.disk_model.specs.Disk.{Image}
-use Rattle.access_traits.specs.Placed.{Placed, rows_of, rows_from}
+use Rattle.am_traits.specs.Placed.{Placed, rows_of, rows_from}
 use Rattle.calculus.specs.declared.schema.RelFile.{RelFile}
 use Rattle.page_chain.specs.Lying.{place_of}
 use Rattle.page_chain.specs.Pages.{page_at}
@@ -55,6 +55,6 @@ one_stands file opened m number same before here k lt = by_order (split k number
 -- all pages were read, and each stands
 pub is_read : (file : RelFile) (m : Image) (number : ℕ) (rows found : List Row) → 0 < file.used → file.used ≤ number → found ≡ rows
     → ((placed : Placed) → heap_rows file m ≡ Some placed → rows_of placed ≡ rows ++ rows_from placed (place_of number 0)) → StandTo file m number → IsRead file m found
-is_read file m number rows found some over same told stand =
+is_read file m number rows found some over same known stand =
     let all = all_stand file m some (λ k lt. stand k (omega arith)) in
-    record { placed = all.0; on_pages = all.1; rows = same ∙ all_read file m all.0 number rows some over all.1 (told all.0 all.1) }
+    record { placed = all.0; on_pages = all.1; rows = same ∙ all_read file m all.0 number rows some over all.1 (known all.0 all.1) }

@@ -4,16 +4,16 @@ use Rattle.calculus.specs.declared.value.Domain.{Domain}
 use Rattle.calculus.specs.Rows.{Row, has}
 use Rattle.disk_model.specs.Disk.{Image}
 use Rattle.disk_model.specs.declared.disk.Addr.{Addr}
-use Rattle.access_traits.specs.Placed.{Placed, rows_of, rows_differ}
+use Rattle.am_traits.specs.Placed.{Placed, rows_of, rows_differ}
 use Rattle.calculus.specs.declared.schema.RelFile.{RelFile}
 use Rattle.page_chain.specs.Pages.{pages_of}
 use Rattle.page_chain.specs.Rows.{reader, set_on}
 use Rattle.heap_am.specs.Heap.{heap_rows}
 
--- The pages are told, and on those of this file, so many, are these rows.
-pub record HasSet (domains : List Domain) (file used : ℕ) (rows : List Row) (told : Option Image) : Type 0 where
+-- The pages are known, and on those of this file, so many, are these rows.
+pub record HasSet (domains : List Domain) (file used : ℕ) (rows : List Row) (known : Option Image) : Type 0 where
   pub image : Image
-  pub told_still : told ≡ Some image
+  pub still_known : known ≡ Some image
   pub are : set_on (reader domains) used (pages_of image file) ≡ Some rows
 
 -- The pages of the file hold no set in which these rows are, each listed once.

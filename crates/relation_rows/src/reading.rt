@@ -2,8 +2,8 @@
 
 ghost use Rattle.std.specs.Prelude.{◌≡◌, ◌+◌, ◌++◌, ◌<◌, ◌≤◌, ◌∷◌, [], map, Some, IsTrue, IfOk, OnOk};
 ghost use Rattle.disk_model.specs.Disk.{Image, RisesUpTo};
-ghost use Rattle.access_traits.specs.Causes.{HasFileCause};
-ghost use Rattle.access_traits.specs.Placed.{Placed, rows_of, rows_from};
+ghost use Rattle.am_traits.specs.Causes.{HasFileCause};
+ghost use Rattle.am_traits.specs.Placed.{Placed, rows_of, rows_from};
 ghost use Rattle.page_cells.specs.RowBytes.{widths};
 ghost use Rattle.page_chain.specs.Lying.{place_of};
 ghost use Rattle.page_chain.specs.Pages.{page_at};
@@ -13,8 +13,8 @@ ghost use Rattle.relation_rows.specs.Sets.{IsRead};
 
 use crate::spots::RowSpots;
 use access::{Method, open_method};
-use access_traits::{PageStore, RelFile};
-use am_traits::BaseFault;
+use am_traits::{PageStore, RelFile};
+use base_trait::BaseFault;
 use calculus::{List, OutOfMemory, Row};
 use std::alloc::Global;
 
@@ -39,7 +39,7 @@ fn read_page<S: PageStore>(
     rows: &mut Vec<Row>,
 ) -> Result<(), BaseFault>
     requires below { number < method.now.heap.file.used }
-    ensures told { (m : Image) (placed : Placed) → S.pages store.old ≡ Some m → heap_rows method.now.heap.file m ≡ Some placed
+    ensures known { (m : Image) (placed : Placed) → S.pages store.old ≡ Some m → heap_rows method.now.heap.file m ≡ Some placed
         → OnOk result (rows.old.items ++ rows_from placed (place_of number 0) ≡ rows.new.items ++ rows_from placed (place_of (number + 1) 0)) }
     ensures stands { (m : Image) → S.pages store.old ≡ Some m → OnOk result (IsTrue (stands (reader method.now.heap.file.domains) method.now.heap.file.used number (m (page_at method.now.heap.file.file number)))) }
     ensures same { S.pages store.new ≡ S.pages store.old }
@@ -67,7 +67,7 @@ pub fn relation_rows<S: PageStore>(
     requires some { 0 < widths file.domains }
     requires most { widths file.domains ≤ 1012 }
     requires pages { 0 < file.used }
-    ensures told { (m : Image) (rows : Placed) → S.pages store.old ≡ Some m → heap_rows file m ≡ Some rows
+    ensures known { (m : Image) (rows : Placed) → S.pages store.old ≡ Some m → heap_rows file m ≡ Some rows
         → IfOk result (λ found. found ≡ rows_of rows) }
     ensures exact { (m : Image) → S.pages store.old ≡ Some m → IfOk result (λ found. IsRead file m found) }
     ensures same { S.pages store.new ≡ S.pages store.old }

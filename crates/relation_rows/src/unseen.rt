@@ -1,13 +1,13 @@
 //! Pages to which rows may have come are looked at, so that it is known where these were seen.
 
 ghost use Rattle.std.specs.Prelude.{◌≡◌, ◌<◌};
-ghost use Rattle.access_traits.specs.Causes.{HasFileCause};
+ghost use Rattle.am_traits.specs.Causes.{HasFileCause};
 ghost use Rattle.heap_am.specs.Heap.{HeapFault};
 
 use crate::spots::{PageRange, RowSpots};
 use access::Method;
-use access_traits::PageStore;
-use am_traits::BaseFault;
+use am_traits::PageStore;
+use base_trait::BaseFault;
 use calculus::Row;
 use memory::List;
 use std::alloc::Global;

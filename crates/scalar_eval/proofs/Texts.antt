@@ -6,7 +6,7 @@ use Rattle.std.proofs.lemmas.Bool.{le-leb}
 use Rattle.std.proofs.lemmas.List.{append-nil}
 use Rattle.calculus.specs.Chars.{is_printable, is_chars}
 use Rattle.calculus.specs.Text.{is_blank, is_text, ends_without_blank, before_trimmed, trimmed, text_of}
-use Rattle.calculus.specs.Constant.{marks, marks_behind, plain_bytes, constant_text}
+use Rattle.calculus.specs.Constant.{unescaped, unescaped_behind, plain_bytes, constant_text}
 use Rattle.calculus.specs.Term.{joined_text}
 use Rattle.scalar_eval.proofs.Marks.{slash, itself}
 use Rattle.calculus.specs.declared.value.Value.{Value}
@@ -15,12 +15,12 @@ use Rattle.calculus.specs.declared.value.Value.TheVariants as value
 -- ---- constants
 
 by_byte : (t : Bool) (b : ℕ) → (b == 92) ≡ t → (bs : List ℕ) → IsTrue (is_printable b)
-    → IsTrue (list_all is_printable (plain_bytes (marks_behind true bs))) → IsTrue (list_all is_printable (plain_bytes (marks_behind false bs)))
-    → IsTrue (list_all is_printable (plain_bytes (marks_behind false (b ∷ bs))))
+    → IsTrue (list_all is_printable (plain_bytes (unescaped_behind true bs))) → IsTrue (list_all is_printable (plain_bytes (unescaped_behind false bs)))
+    → IsTrue (list_all is_printable (plain_bytes (unescaped_behind false (b ∷ bs))))
 by_byte true b e bs p h k = rw (slash b bs e) h
 by_byte false b e bs p h k = rw (itself b bs e) (search (rules, p, k))
 
-read_printable : (f : Bool) (bs : List ℕ) → IsTrue (list_all is_printable bs) → IsTrue (list_all is_printable (plain_bytes (marks_behind f bs)))
+read_printable : (f : Bool) (bs : List ℕ) → IsTrue (list_all is_printable bs) → IsTrue (list_all is_printable (plain_bytes (unescaped_behind f bs)))
 read_printable true [] h = refl
 read_printable false [] h = refl
 read_printable true (b ∷ bs) h =
@@ -34,12 +34,12 @@ abbrev in_front : Bool → ℕ
 in_front true = 1
 in_front false = 0
 
-by_length : (t : Bool) (b : ℕ) → (b == 92) ≡ t → (bs : List ℕ) → length (plain_bytes (marks_behind true bs)) ≤ length bs + 1
-    → length (plain_bytes (marks_behind false bs)) ≤ length bs + 0 → length (plain_bytes (marks_behind false (b ∷ bs))) ≤ length (b ∷ bs) + 0
+by_length : (t : Bool) (b : ℕ) → (b == 92) ≡ t → (bs : List ℕ) → length (plain_bytes (unescaped_behind true bs)) ≤ length bs + 1
+    → length (plain_bytes (unescaped_behind false bs)) ≤ length bs + 0 → length (plain_bytes (unescaped_behind false (b ∷ bs))) ≤ length (b ∷ bs) + 0
 by_length true b e bs h k = rw (slash b bs e) (omega (arith, h))
 by_length false b e bs h k = rw (itself b bs e) (omega (arith, k))
 
-read_length : (f : Bool) (bs : List ℕ) → length (plain_bytes (marks_behind f bs)) ≤ length bs + in_front f
+read_length : (f : Bool) (bs : List ℕ) → length (plain_bytes (unescaped_behind f bs)) ≤ length bs + in_front f
 read_length true [] = omega arith
 read_length false [] = omega arith
 read_length true (b ∷ bs) = omega (arith, read_length false bs)
@@ -59,18 +59,18 @@ unfolding text_of
 of_bytes bs h l = rw (h, le-leb (length (trimmed bs)) 255 l) refl
 
 -- at the end all bytes are read
-pub read_at_end : (bytes rest whole : List ℕ) → bytes ++ plain_bytes (marks rest) ≡ whole → rest ≡ [] → bytes ≡ whole
-unfolding marks
-read_at_end bytes rest whole h e = sym (append-nil bytes) ∙ ap (λ r. bytes ++ plain_bytes (marks_behind false r)) (sym e) ∙ h
+pub read_at_end : (bytes rest whole : List ℕ) → bytes ++ plain_bytes (unescaped rest) ≡ whole → rest ≡ [] → bytes ≡ whole
+unfolding unescaped
+read_at_end bytes rest whole h e = sym (append-nil bytes) ∙ ap (λ r. bytes ++ plain_bytes (unescaped_behind false r)) (sym e) ∙ h
 
 -- the bytes of a constant, escapes removed, make its text
-pub text_of_constant : (written : List ℕ) → IsTrue (is_chars written) → text_of (plain_bytes (marks written)) ≡ Some (constant_text written)
-unfolding is_chars marks constant_text
+pub text_of_constant : (written : List ℕ) → IsTrue (is_chars written) → text_of (plain_bytes (unescaped written)) ≡ Some (constant_text written)
+unfolding is_chars unescaped constant_text
 text_of_constant written h =
     let short : length written ≤ 255 = grind (arith, h) in
-    of_bytes (plain_bytes (marks_behind false written))
+    of_bytes (plain_bytes (unescaped_behind false written))
     (read_printable false written (search (rules, h)))
-    (omega (arith, short, read_length false written, trimmed_length (plain_bytes (marks_behind false written))))
+    (omega (arith, short, read_length false written, trimmed_length (plain_bytes (unescaped_behind false written))))
 
 -- ---- one text behind the other
 

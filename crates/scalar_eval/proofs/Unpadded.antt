@@ -1,8 +1,8 @@
 -- Dropping the bare blanks at the end, byte by byte.
 use Rattle.std.proofs.Common.{◌≡◌, refl, sym, ap, ◌∙◌, ℕ, suc, ◌+◌, ◌≤◌, Bool, true, false, not, ◌&&◌, ◌||◌, ◌==◌, if◌then◌else◌, List, [], ◌∷◌, length, take, rules, arith}
-use Rattle.calculus.specs.Constant.{mark, marks, marks_behind}
+use Rattle.calculus.specs.Constant.{unescaped_byte, unescaped, unescaped_behind}
 use Rattle.calculus.specs.Pattern.{is_bare, before_unpadded, unpadded}
-use Rattle.calculus.specs.declared.mark.Mark.{Mark}
+use Rattle.calculus.specs.declared.unescaped.Unescaped.{Unescaped}
 use Rattle.scalar_eval.specs.Walk.{kept_from}
 use Rattle.scalar_eval.proofs.Marks.{slash, itself, plain_is_not_bare, bare_is}
 
@@ -17,53 +17,53 @@ unpadded_bytes f [] = []
 unpadded_bytes f (b ∷ bs) =
     if f || not (b == 32) then b ∷ unpadded_bytes (not f && (b == 92)) bs else before_some b (unpadded_bytes (not f && (b == 92)) bs)
 
--- ---- the marks that are left
+-- ---- the unescaped bytes that are left
 
-keeps : (m : Mark) (ms : List Mark) → is_bare 32 m ≡ false → before_unpadded m ms ≡ m ∷ ms
+keeps : (m : Unescaped) (ms : List Unescaped) → is_bare 32 m ≡ false → before_unpadded m ms ≡ m ∷ ms
 keeps m [] e = ap (λ u. if u then [] else m ∷ []) e
 keeps m (n ∷ ms) e = refl
 
-drops : (m : Mark) → is_bare 32 m ≡ true → before_unpadded m [] ≡ []
+drops : (m : Unescaped) → is_bare 32 m ≡ true → before_unpadded m [] ≡ []
 drops m e = ap (λ u. if u then [] else m ∷ []) e
 
-keeps_before : (m : Mark) (ms : List Mark) (n : Mark) (ns : List Mark) → ms ≡ n ∷ ns → before_unpadded m ms ≡ m ∷ ms
+keeps_before : (m : Unescaped) (ms : List Unescaped) (n : Unescaped) (ns : List Unescaped) → ms ≡ n ∷ ns → before_unpadded m ms ≡ m ∷ ms
 keeps_before m ms n ns h = ap (before_unpadded m) h ∙ ap (λ qs. m ∷ qs) (sym h)
 
-plain_some : (cs : List ℕ) → (m : Mark) × (ms : List Mark) × (marks_behind true cs ≡ m ∷ ms)
-plain_some [] = (mark 92 false, [], refl)
-plain_some (d ∷ ds) = (mark d true, marks_behind false ds, refl)
+plain_some : (cs : List ℕ) → (m : Unescaped) × (ms : List Unescaped) × (unescaped_behind true cs ≡ m ∷ ms)
+plain_some [] = (unescaped_byte 92 false, [], refl)
+plain_some (d ∷ ds) = (unescaped_byte d true, unescaped_behind false ds, refl)
 
--- some bytes are some marks
-pub marks_some : (c : ℕ) (cs : List ℕ) → (m : Mark) × (ms : List Mark) × (marks_behind false (c ∷ cs) ≡ m ∷ ms)
+-- some bytes are some unescaped bytes
+pub marks_some : (c : ℕ) (cs : List ℕ) → (m : Unescaped) × (ms : List Unescaped) × (unescaped_behind false (c ∷ cs) ≡ m ∷ ms)
 marks_some c cs = by (c == 92) refl
   where
-    by : (t : Bool) → (c == 92) ≡ t → (m : Mark) × (ms : List Mark) × (marks_behind false (c ∷ cs) ≡ m ∷ ms)
+    by : (t : Bool) → (c == 92) ≡ t → (m : Unescaped) × (ms : List Unescaped) × (unescaped_behind false (c ∷ cs) ≡ m ∷ ms)
     by true e = let r = plain_some cs in (r.0, r.1, slash c cs e ∙ r.2)
-    by false e = (mark c false, marks_behind false cs, itself c cs e)
+    by false e = (unescaped_byte c false, unescaped_behind false cs, itself c cs e)
 
-blank : (b : ℕ) (u : List ℕ) (ms : List Mark) → (b == 92) ≡ false → (b == 32) ≡ true → marks_behind false u ≡ ms
-    → marks_behind false (before_some b u) ≡ before_unpadded (mark b false) ms
-blank b [] ms e s h = sym (ap (before_unpadded (mark b false)) (sym h) ∙ drops (mark b false) (bare_is 32 b ∙ s))
+blank : (b : ℕ) (u : List ℕ) (ms : List Unescaped) → (b == 92) ≡ false → (b == 32) ≡ true → unescaped_behind false u ≡ ms
+    → unescaped_behind false (before_some b u) ≡ before_unpadded (unescaped_byte b false) ms
+blank b [] ms e s h = sym (ap (before_unpadded (unescaped_byte b false)) (sym h) ∙ drops (unescaped_byte b false) (bare_is 32 b ∙ s))
 blank b (c ∷ cs) ms e s h =
     let r = marks_some c cs in
-    itself b (c ∷ cs) e ∙ ap (λ qs. mark b false ∷ qs) h ∙ sym (keeps_before (mark b false) ms r.0 r.1 (sym h ∙ r.2))
+    itself b (c ∷ cs) e ∙ ap (λ qs. unescaped_byte b false ∷ qs) h ∙ sym (keeps_before (unescaped_byte b false) ms r.0 r.1 (sym h ∙ r.2))
 
-one_byte : (b : ℕ) (bs : List ℕ) (t s : Bool) → (b == 92) ≡ t → (b == 32) ≡ s → marks_behind t (unpadded_bytes t bs) ≡ unpadded (marks_behind t bs)
-    → marks_behind false (if not s then b ∷ unpadded_bytes t bs else before_some b (unpadded_bytes t bs)) ≡ unpadded (marks_behind false (b ∷ bs))
+one_byte : (b : ℕ) (bs : List ℕ) (t s : Bool) → (b == 92) ≡ t → (b == 32) ≡ s → unescaped_behind t (unpadded_bytes t bs) ≡ unpadded (unescaped_behind t bs)
+    → unescaped_behind false (if not s then b ∷ unpadded_bytes t bs else before_some b (unpadded_bytes t bs)) ≡ unpadded (unescaped_behind false (b ∷ bs))
 one_byte b bs true true e f h =
     let is : b ≡ 92 = search (rules, e) in let q : false ≡ true = sym (ap (λ x. x == 32) is) ∙ f in cc q
 one_byte b bs true false e f h = slash b (unpadded_bytes true bs) e ∙ h ∙ ap unpadded (sym (slash b bs e))
 one_byte b bs false true e f h =
-    blank b (unpadded_bytes false bs) (unpadded (marks_behind false bs)) e f h ∙ ap unpadded (sym (itself b bs e))
+    blank b (unpadded_bytes false bs) (unpadded (unescaped_behind false bs)) e f h ∙ ap unpadded (sym (itself b bs e))
 one_byte b bs false false e f h =
-    itself b (unpadded_bytes false bs) e ∙ ap (λ qs. mark b false ∷ qs) h
-    ∙ sym (keeps (mark b false) (unpadded (marks_behind false bs)) (bare_is 32 b ∙ f)) ∙ ap unpadded (sym (itself b bs e))
+    itself b (unpadded_bytes false bs) e ∙ ap (λ qs. unescaped_byte b false ∷ qs) h
+    ∙ sym (keeps (unescaped_byte b false) (unpadded (unescaped_behind false bs)) (bare_is 32 b ∙ f)) ∙ ap unpadded (sym (itself b bs e))
 
-unpadded_marks : (f : Bool) (bs : List ℕ) → marks_behind f (unpadded_bytes f bs) ≡ unpadded (marks_behind f bs)
+unpadded_marks : (f : Bool) (bs : List ℕ) → unescaped_behind f (unpadded_bytes f bs) ≡ unpadded (unescaped_behind f bs)
 unpadded_marks true [] = refl
 unpadded_marks false [] = refl
 unpadded_marks true (b ∷ bs) =
-    ap (λ ms. mark b true ∷ ms) (unpadded_marks false bs) ∙ sym (keeps (mark b true) (unpadded (marks_behind false bs)) (plain_is_not_bare 32 b))
+    ap (λ ms. unescaped_byte b true ∷ ms) (unpadded_marks false bs) ∙ sym (keeps (unescaped_byte b true) (unpadded (unescaped_behind false bs)) (plain_is_not_bare 32 b))
 unpadded_marks false (b ∷ bs) = one_byte b bs (b == 92) (b == 32) refl refl (unpadded_marks (b == 92) bs)
 
 -- ---- how many bytes they are
@@ -111,9 +111,9 @@ none_kept (b ∷ bs) = omega arith
 pub kept_within : (p : List ℕ) → kept_from 0 0 false p ≤ length p
 kept_within p = omega (arith, kept_is 0 0 false p, none_kept (unpadded_bytes false p), shorter false p)
 
--- the bytes that are kept are the marks without the bare blanks at the end
-pub kept_marks : (p u : List ℕ) → u ≡ take (kept_from 0 0 false p) p → marks u ≡ unpadded (marks p)
-unfolding marks
+-- the bytes that are kept are the unescaped bytes without the bare blanks at the end
+pub kept_marks : (p u : List ℕ) → u ≡ take (kept_from 0 0 false p) p → unescaped u ≡ unpadded (unescaped p)
+unfolding unescaped
 kept_marks p u h =
-    ap (marks_behind false) (h ∙ ap (λ n. take n p) (kept_is 0 0 false p ∙ none_kept (unpadded_bytes false p)) ∙ take_is false p)
+    ap (unescaped_behind false) (h ∙ ap (λ n. take n p) (kept_is 0 0 false p ∙ none_kept (unpadded_bytes false p)) ∙ take_is false p)
     ∙ unpadded_marks false p

@@ -1,6 +1,6 @@
 -- Trying a pattern along a text: what the items behind the last `*` can still give, and that earlier ones can give no more.
 use Rattle.std.proofs.Common.{◌≡◌, refl, sym, ap, ◌∙◌, ℕ, Bool, true, false, ◌&&◌, ◌||◌, ◌==◌, if◌then◌else◌, List, [], ◌∷◌, length, Option, Some, None, arith}
-use Rattle.calculus.specs.Constant.{marks}
+use Rattle.calculus.specs.Constant.{unescaped}
 use Rattle.calculus.specs.Pattern.{Item, Byte, AnyByte, AnyText, Class, some_rest, fits_items}
 use Rattle.scalar_eval.proofs.Items.{written_some}
 use Rattle.scalar_eval.specs.Walk.{takes, written_items, behind_byte, behind_any_text}
@@ -151,7 +151,7 @@ nothing_fits is i js h n = ap (λ qs. fits_items qs []) h ∙ fits_nothing i js 
 
 -- where no `*` comes first, only the end fits the end of the text
 pub end_written : (p : List ℕ) → behind_any_text (written_items p) ≡ None → fits_items (written_items p) [] ≡ (length p == 0)
-unfolding fits_items marks written_items
+unfolding fits_items unescaped written_items
 end_written [] n = refl
 end_written (b ∷ bs) n =
     let s = written_some b bs in

@@ -15,7 +15,7 @@ use Rattle.calculus.specs.declared.query.QTerm.{QTerm, Int, Chars, Attr}
 use Rattle.calculus.specs.declared.query.QQual.{True, Cmp, Like}
 use Rattle.calculus.specs.declared.agg_table.AggTable.{AggTable}
 use Rattle.calculus.specs.Tree.{neg, abs, operation, concat, negated, aggregate}
-use Rattle.calculus.specs.Constant.{marks, constant_text}
+use Rattle.calculus.specs.Constant.{unescaped, constant_text}
 use Rattle.calculus.specs.Pattern.{items, fits_items, matches}
 use Rattle.calculus.specs.Term.{Env, val, holds, no_aggs, attribute_value, opposite_value, value_without_sign, operated_values, joined_values, compared_values, values_of}
 use Rattle.calculus.specs.Kinds.{kind_of, kinds_fit, attribute_kind, constant_kind, number_kind, operated_kind, joined_kind, comparable, is_text_kind}
@@ -91,19 +91,19 @@ by_zero = refl
 
 -- a text constant drops its blanks at the end and its escapes
 constant : v (Chars (codes "a  ")) ≡ Some (value.Text (codes "a"))
-unfolding v val constant_text marks
+unfolding v val constant_text unescaped
 constant = refl
 
 escaped_constant : v (Chars (92 ∷ 42 ∷ 92 ∷ 32 ∷ [])) ≡ Some (value.Text (codes "*"))
-unfolding v val constant_text marks
+unfolding v val constant_text unescaped
 escaped_constant = refl
 
 last_backslash : v (Chars (97 ∷ 92 ∷ [])) ≡ Some (value.Text (97 ∷ 92 ∷ []))
-unfolding v val constant_text marks
+unfolding v val constant_text unescaped
 last_backslash = refl
 
 joined : v (concat (Chars (codes "a ")) (Chars (codes "b"))) ≡ Some (value.Text (codes "ab"))
-unfolding v val constant_text marks joined_values
+unfolding v val constant_text unescaped joined_values
 joined = refl
 
 -- a comparison without value is false, and its negation is true
@@ -114,69 +114,69 @@ no_value = refl
 -- ---- matching
 
 smith : matches (codes "s*h?") (codes "smithy") ≡ true
-unfolding matches items marks fits_items
+unfolding matches items unescaped fits_items
 smith = refl
 
 in_range : matches (codes "[a-c]x") (codes "bx") ≡ true
-unfolding matches items marks fits_items
+unfolding matches items unescaped fits_items
 in_range = refl
 
 out_of_range : matches (codes "[a-c]x") (codes "dx") ≡ false
-unfolding matches items marks fits_items
+unfolding matches items unescaped fits_items
 out_of_range = refl
 
 plain_star : matches (92 ∷ 42 ∷ []) (codes "*") ≡ true
-unfolding matches items marks fits_items
+unfolding matches items unescaped fits_items
 plain_star = refl
 
 plain_star_only : matches (92 ∷ 42 ∷ []) (codes "a") ≡ false
-unfolding matches items marks fits_items
+unfolding matches items unescaped fits_items
 plain_star_only = refl
 
 open_bracket : matches (codes "[abc") (codes "[abc") ≡ true
-unfolding matches items marks fits_items
+unfolding matches items unescaped fits_items
 open_bracket = refl
 
 empty_class : matches (codes "[]") (codes "a") ≡ false
-unfolding matches items marks fits_items
+unfolding matches items unescaped fits_items
 empty_class = refl
 
 empty_pattern : matches [] [] ≡ true
-unfolding matches items marks fits_items
+unfolding matches items unescaped fits_items
 empty_pattern = refl
 
 empty_pattern_only : matches [] (codes "a") ≡ false
-unfolding matches items marks fits_items
+unfolding matches items unescaped fits_items
 empty_pattern_only = refl
 
 -- `[\]-]` holds `]` and `-`; `[a\-c]` is no range; `[--0]` is one from `-` to `0`; `[a-b-c]` holds `-`
 escaped_close : matches (91 ∷ 92 ∷ 93 ∷ 45 ∷ 93 ∷ []) (93 ∷ []) ≡ true
-unfolding matches items marks fits_items
+unfolding matches items unescaped fits_items
 escaped_close = refl
 
 plain_dash : matches (91 ∷ 97 ∷ 92 ∷ 45 ∷ 99 ∷ 93 ∷ []) (codes "b") ≡ false
-unfolding matches items marks fits_items
+unfolding matches items unescaped fits_items
 plain_dash = refl
 
 from_dash : matches (codes "[--0]") (codes "/") ≡ true
-unfolding matches items marks fits_items
+unfolding matches items unescaped fits_items
 from_dash = refl
 
 second_dash : matches (codes "[a-b-c]") (codes "-") ≡ true
-unfolding matches items marks fits_items
+unfolding matches items unescaped fits_items
 second_dash = refl
 
 reversed : matches (codes "[c-a]") (codes "b") ≡ false
-unfolding matches items marks fits_items
+unfolding matches items unescaped fits_items
 reversed = refl
 
 -- blanks at the end are dropped, escaped ones stay
 padded : matches (codes "a  ") (codes "a") ≡ true
-unfolding matches items marks fits_items
+unfolding matches items unescaped fits_items
 padded = refl
 
 plain_blank : matches (97 ∷ 92 ∷ 32 ∷ 32 ∷ []) (codes "a") ≡ false
-unfolding matches items marks fits_items
+unfolding matches items unescaped fits_items
 plain_blank = refl
 
 -- ---- kinds
@@ -189,11 +189,11 @@ unfolding vars kind_of attribute_kind operated_kind number_kind
 number_kinds = refl
 
 joined_kinds : kind_of (concat (Attr 0 1) (Chars (codes "ab "))) vars ≡ Some (Of (C 8))
-unfolding vars kind_of attribute_kind joined_kind constant_kind constant_text marks
+unfolding vars kind_of attribute_kind joined_kind constant_kind constant_text unescaped
 joined_kinds = refl
 
 empty_constant : kind_of (Chars (codes " ")) vars ≡ Some (Of (C 1))
-unfolding kind_of constant_kind constant_text marks
+unfolding kind_of constant_kind constant_text unescaped
 empty_constant = refl
 
 sum_of_text : kind_of (operation op.Add (Attr 0 0) (Attr 0 1)) vars ≡ None

@@ -1,17 +1,17 @@
 //! The classes of a pattern.
 
 ghost use Rattle.std.specs.Prelude.{◌≡◌, ◌<◌, ◌≤◌, ◌∷◌, [], length, Some, None, false, not, ◌&&◌, ◌==◌, MatchOption, IfSome};
-ghost use Rattle.calculus.specs.Constant.{marks};
+ghost use Rattle.calculus.specs.Constant.{unescaped};
 ghost use Rattle.calculus.specs.Pattern.{is_bare, ranges, in_class, class_length};
 ghost use Rattle.scalar_eval.specs.Walk.{IsClass, NoneCloses, after_dash, close_from};
 
-use calculus::{Mark, next_mark};
+use calculus::{Unescaped, next_unescaped};
 
-/// Whether the mark is this byte with no backslash in front.
-pub(crate) fn is_bare(mark: Mark, byte: u8) -> bool
-    ensures { result ≡ is_bare byte mark }
+/// Whether the unescaped byte is this byte with no backslash in front.
+pub(crate) fn is_bare(unescaped_byte: Unescaped, byte: u8) -> bool
+    ensures { result ≡ is_bare byte unescaped_byte }
 {
-    mark.byte == byte && !mark.plain
+    unescaped_byte.byte == byte && !unescaped_byte.plain
 }
 
 /// Whether the byte makes the next one plain, where `escaped` says that a backslash makes it plain.
@@ -46,7 +46,7 @@ fn close_of(behind: &[u8]) -> Option<usize>
 /// where no `]` ends it.
 #[tactic(auto, using(crate::proofs::Marks::close_within, crate::proofs::Marks::class_parts, crate::proofs::Marks::no_class_written))]
 pub(crate) fn class_end(behind: &[u8]) -> Option<(&[u8], &[u8])>
-    ensures parts { MatchOption result (class_length (marks behind.now) ≡ None) (λ p. IsClass behind.now p.0.now p.1.now) }
+    ensures parts { MatchOption result (class_length (unescaped behind.now) ≡ None) (λ p. IsClass behind.now p.0.now p.1.now) }
     ensures shorter { IfSome result (λ p. length p.1.now < length behind.now) }
 {
     match close_of(behind) {
@@ -63,7 +63,7 @@ pub(crate) fn class_end(behind: &[u8]) -> Option<(&[u8], &[u8])>
 /// none. Each byte is read once.
 #[tactic(auto, using(crate::proofs::Unclosed::none_closes))]
 pub(crate) fn unclosed_length(pattern: &[u8]) -> usize
-    ensures { NoneCloses result (marks pattern.now) }
+    ensures { NoneCloses result (unescaped pattern.now) }
 {
     let mut rest = pattern;
     'classes: while let Some((_, after)) = class_end(rest) {
@@ -76,8 +76,8 @@ pub(crate) fn unclosed_length(pattern: &[u8]) -> usize
 /// `unclosed` bytes are left.
 #[tactic(auto, using(crate::proofs::Unclosed::no_class_left))]
 pub(crate) fn class_before(unclosed: usize, behind: &[u8]) -> Option<(&[u8], &[u8])>
-    requires { NoneCloses unclosed (marks behind.now) }
-    ensures parts { MatchOption result (class_length (marks behind.now) ≡ None) (λ p. IsClass behind.now p.0.now p.1.now) }
+    requires { NoneCloses unclosed (unescaped behind.now) }
+    ensures parts { MatchOption result (class_length (unescaped behind.now) ≡ None) (λ p. IsClass behind.now p.0.now p.1.now) }
     ensures shorter { IfSome result (λ p. length p.1.now < length behind.now) }
 {
     if behind.len() <= unclosed {
@@ -89,13 +89,13 @@ pub(crate) fn class_before(unclosed: usize, behind: &[u8]) -> Option<(&[u8], &[u
 
 /// The byte behind a `-` that comes first and is not plain, and what is written behind it.
 #[tactic(auto, using(crate::proofs::Marks::dash_none, crate::proofs::Marks::dash_last, crate::proofs::Marks::no_dash, crate::proofs::Marks::dash))]
-fn after_dash(behind: &[u8]) -> Option<(Mark, &[u8])>
-    ensures parts { MatchOption result (after_dash (marks behind.now) ≡ None) (λ p. after_dash (marks behind.now) ≡ Some (p.0, marks p.1.now)) }
+fn after_dash(behind: &[u8]) -> Option<(Unescaped, &[u8])>
+    ensures parts { MatchOption result (after_dash (unescaped behind.now) ≡ None) (λ p. after_dash (unescaped behind.now) ≡ Some (p.0, unescaped p.1.now)) }
     ensures shorter { IfSome result (λ p. length p.1.now < length behind.now) }
 {
-    match next_mark(behind) {
+    match next_unescaped(behind) {
         None => None,
-        Some((dash, rest)) => match next_mark(rest) {
+        Some((dash, rest)) => match next_unescaped(rest) {
             None => None,
             Some((high, more)) => {
                 if is_bare(dash, b'-') {
@@ -111,8 +111,8 @@ fn after_dash(behind: &[u8]) -> Option<(Mark, &[u8])>
 /// The last byte of the range that a member of a class begins, which is the member itself where no
 /// range follows, and what is written behind it.
 #[tactic(auto, using(crate::proofs::Marks::single, crate::proofs::Marks::range_of))]
-fn range_end(low: Mark, behind: &[u8]) -> (u8, &[u8])
-    ensures range { ranges (low ∷ marks behind.now) ≡ (low.byte, result.0) ∷ ranges (marks result.1.now) }
+fn range_end(low: Unescaped, behind: &[u8]) -> (u8, &[u8])
+    ensures range { ranges (low ∷ unescaped behind.now) ≡ (low.byte, result.0) ∷ ranges (unescaped result.1.now) }
     ensures shorter { length result.1.now ≤ length behind.now }
 {
     match after_dash(behind) {
@@ -124,10 +124,10 @@ fn range_end(low: Mark, behind: &[u8]) -> (u8, &[u8])
 /// Whether the byte is in the class that is written so.
 #[tactic(auto, using(crate::proofs::Marks::nothing_in_class))]
 pub(crate) fn in_class(class: &[u8], byte: u8) -> bool
-    ensures { result ≡ in_class (ranges (marks class.now)) byte }
+    ensures { result ≡ in_class (ranges (unescaped class.now)) byte }
 {
     let mut rest = class;
-    'members: while let Some((low, behind)) = next_mark(rest) {
+    'members: while let Some((low, behind)) = next_unescaped(rest) {
         let (high, after) = range_end(low, behind);
         if low.byte <= byte && byte <= high {
             return true;

@@ -1,20 +1,20 @@
 //! The text of a constant.
 
 ghost use Rattle.std.specs.Prelude.{◌≡◌, IfOk, Some};
-ghost use Rattle.calculus.specs.Constant.{marks, plain_bytes, constant_text};
+ghost use Rattle.calculus.specs.Constant.{unescaped, plain_bytes, constant_text};
 ghost use Rattle.calculus.specs.declared.value.Value.TheVariants as value;
 
-use calculus::{Chars, OutOfMemory, Text, Value, next_mark};
+use calculus::{Chars, OutOfMemory, Text, Value, next_unescaped};
 use std::alloc::Global;
 
 /// The bytes of a constant with escapes removed.
 fn plain_bytes(alloc: Global, written: &[u8]) -> Result<Vec<u8>, OutOfMemory>
-    ensures { IfOk result (λ bytes. bytes.items ≡ plain_bytes (marks written.now)) }
+    ensures { IfOk result (λ bytes. bytes.items ≡ plain_bytes (unescaped written.now)) }
 {
     let mut bytes = Vec::new(alloc);
     let mut rest = written;
-    'bytes: while let Some((mark, behind)) = next_mark(rest) {
-        bytes.push(mark.byte)?;
+    'bytes: while let Some((unescaped_byte, behind)) = next_unescaped(rest) {
+        bytes.push(unescaped_byte.byte)?;
         rest = behind;
     }
     Ok(bytes)

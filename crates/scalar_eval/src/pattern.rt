@@ -1,12 +1,12 @@
 //! Matching a text with a pattern.
 
 ghost use Rattle.std.specs.Prelude.{ℕ, ◌≡◌, ◌<◌, ◌≤◌, ◌∷◌, [], length, Some, None, false, not, suc, ◌^◌, ◌||◌, ◌==◌, if◌then◌else◌, MatchOption, IfSome};
-ghost use Rattle.calculus.specs.Constant.{marks};
+ghost use Rattle.calculus.specs.Constant.{unescaped};
 ghost use Rattle.calculus.specs.Pattern.{unpadded, fits_items, matches};
 ghost use Rattle.scalar_eval.specs.Walk.{NoneCloses, written_items, bracket_written, behind_byte, behind_any_text, kept_from};
 
 use crate::class::{class_before, escapes, in_class, is_bare, unclosed_length};
-use calculus::next_mark;
+use calculus::next_unescaped;
 
 /// How many bytes are kept up to this byte at this place, where `kept` are in front of it: all of them,
 /// unless it is a blank that no backslash makes plain.
@@ -37,7 +37,7 @@ fn unpadded_length(pattern: &[u8]) -> usize
 /// The pattern without the blanks at the end that no backslash makes plain.
 #[tactic(auto, using(crate::proofs::Unpadded::kept_within, crate::proofs::Unpadded::kept_marks))]
 fn unpadded(pattern: &[u8]) -> &[u8]
-    ensures { marks result.now ≡ unpadded (marks pattern.now) }
+    ensures { unescaped result.now ≡ unpadded (unescaped pattern.now) }
 {
     pattern.split_at(unpadded_length(pattern)).0
 }
@@ -47,12 +47,12 @@ fn unpadded(pattern: &[u8]) -> &[u8]
 fn behind_any_text(pattern: &[u8]) -> Option<&[u8]>
     ensures first { MatchOption result (behind_any_text (written_items pattern.now) ≡ None) (λ r. behind_any_text (written_items pattern.now) ≡ Some (written_items r.now)) }
     ensures shorter { IfSome result (λ r. length r.now < length pattern.now) }
-    ensures none_closes { IfSome result (λ r. (unclosed : ℕ) → NoneCloses unclosed (marks pattern.now) → NoneCloses unclosed (marks r.now)) }
+    ensures none_closes { IfSome result (λ r. (unclosed : ℕ) → NoneCloses unclosed (unescaped pattern.now) → NoneCloses unclosed (unescaped r.now)) }
 {
-    match next_mark(pattern) {
+    match next_unescaped(pattern) {
         None => None,
-        Some((mark, behind)) => {
-            if is_bare(mark, b'*') {
+        Some((unescaped_byte, behind)) => {
+            if is_bare(unescaped_byte, b'*') {
                 Some(behind)
             } else {
                 None
@@ -65,10 +65,10 @@ fn behind_any_text(pattern: &[u8]) -> Option<&[u8]>
 /// the byte. No `]` follows exactly where at most `unclosed` bytes are left.
 #[tactic(auto, using(crate::proofs::Items::class_takes, crate::proofs::Items::class_refuses, crate::proofs::Items::open_takes, crate::proofs::Items::open_refuses))]
 fn behind_bracket(unclosed: usize, behind: &[u8], byte: u8) -> Option<&[u8]>
-    requires { NoneCloses unclosed (marks behind.now) }
+    requires { NoneCloses unclosed (unescaped behind.now) }
     ensures first { MatchOption result (behind_byte (bracket_written behind.now) byte ≡ None) (λ r. behind_byte (bracket_written behind.now) byte ≡ Some (written_items r.now)) }
     ensures shorter { IfSome result (λ r. length r.now ≤ length behind.now) }
-    ensures none_closes { IfSome result (λ r. NoneCloses unclosed (marks r.now)) }
+    ensures none_closes { IfSome result (λ r. NoneCloses unclosed (unescaped r.now)) }
 {
     match class_before(unclosed, behind) {
         Some((class, rest)) => {
@@ -86,21 +86,21 @@ fn behind_bracket(unclosed: usize, behind: &[u8], byte: u8) -> Option<&[u8]>
 /// exactly where at most `unclosed` bytes are left.
 #[tactic(auto, using(crate::proofs::Items::byte_none, crate::proofs::Items::byte_star, crate::proofs::Items::byte_question, crate::proofs::Items::byte_bracket, crate::proofs::Items::byte_itself, crate::proofs::Items::byte_other, crate::proofs::Unclosed::next_none_closes))]
 fn behind_byte(unclosed: usize, pattern: &[u8], byte: u8) -> Option<&[u8]>
-    requires { NoneCloses unclosed (marks pattern.now) }
+    requires { NoneCloses unclosed (unescaped pattern.now) }
     ensures first { MatchOption result (behind_byte (written_items pattern.now) byte ≡ None) (λ r. behind_byte (written_items pattern.now) byte ≡ Some (written_items r.now)) }
     ensures shorter { IfSome result (λ r. length r.now < length pattern.now) }
-    ensures none_closes { IfSome result (λ r. NoneCloses unclosed (marks r.now)) }
+    ensures none_closes { IfSome result (λ r. NoneCloses unclosed (unescaped r.now)) }
 {
-    match next_mark(pattern) {
+    match next_unescaped(pattern) {
         None => None,
-        Some((mark, behind)) => {
-            if is_bare(mark, b'*') {
+        Some((unescaped_byte, behind)) => {
+            if is_bare(unescaped_byte, b'*') {
                 None
-            } else if is_bare(mark, b'?') {
+            } else if is_bare(unescaped_byte, b'?') {
                 Some(behind)
-            } else if is_bare(mark, b'[') {
+            } else if is_bare(unescaped_byte, b'[') {
                 behind_bracket(unclosed, behind, byte)
-            } else if byte == mark.byte {
+            } else if byte == unescaped_byte.byte {
                 Some(behind)
             } else {
                 None

@@ -15,7 +15,7 @@ use Rattle.calculus.specs.Storable.{row_qual_is_storable, permit_lists_are_stora
 use Rattle.calculus.specs.Limits.{most_expanded_variables, most_variables, greatest_size, most_permits, most_rules, most_rows}
 use Rattle.calculus.specs.QueryParts.{vars_of, targets_of}
 use Rattle.calculus.specs.Sizes.{variables}
-use Rattle.calculus.specs.IsDatabase.{IsDatabase, key_is_named, keys_stand, structure_stands, attrs_stand, are_stored, row_fits, relation_rows_fit, view_info_stands, attrs_are_targets}
+use Rattle.calculus.specs.IsDatabase.{IsDatabase, key_is_named, keys_stand, valid_structure, attrs_stand, are_stored, row_fits, relation_rows_fit, valid_view_info, attrs_are_targets}
 use Rattle.calculus.specs.Change.{rows_differ, IsLawful}
 use Rattle.calculus.specs.Schema.{bare, schema_of, without_going, going_rows_stand, IsLawfulBySchema, rows_allow}
 use Rattle.calculus.proofs.Sets.{same_exact}
@@ -33,9 +33,9 @@ use Rattle.change_laws.specs.Fit.{key_is_free, rows_are_fit, relation_is_fit, de
 use Rattle.change_laws.proofs.Counted.{length_without}
 use Rattle.change_laws.proofs.Exactly.{fits_exactly}
 use Rattle.schema_laws.proofs.Alike.{relation_bare, is_relation_alike, is_there_alike, attrs_alike}
-use Rattle.schema_laws.proofs.Told.{size_alike, expanded_alike, query_level_alike}
-use Rattle.schema_laws.proofs.SchemaStands.{query_stands_alike, vars_there_alike, row_qual_alike, permit_alike, schema_is_database}
-use Rattle.schema_laws.proofs.Judged.{full_alike, permit_numbers_alike, rule_numbers_alike}
+use Rattle.schema_laws.proofs.Known.{size_alike, expanded_alike, query_level_alike}
+use Rattle.schema_laws.proofs.SchemaStands.{valid_query_alike, vars_there_alike, row_qual_alike, permit_alike, schema_is_database}
+use Rattle.schema_laws.proofs.CheckedTrees.{full_alike, permit_numbers_alike, rule_numbers_alike}
 
 -- ---- the tests of changes that move no rows
 
@@ -69,20 +69,20 @@ unfolding moves_no_rows change_is_fit relation_is_fit destroying_is_fit structur
 fit_alike db (change.Rows rel remove add) h = cc h
 fit_alike db (change.Create info rows) h = λ i.
     free_alike db info.key i
-    && (structure_stands info
+    && (valid_structure info
     && (attrs_stand info.attrs && (are_stored info.attrs && (rows_differ rows && (list_all (row_fits info.attrs) rows && nat_le (length rows) most_rows)))))
 fit_alike db (change.Destroy rels) h = λ i.
     list_all (λ key. is_there_alike db key i) rels && (differ_by same_key rels && not (list_any (λ key. outside_alike db rels key i) rels))
 fit_alike db (change.Modify rel to keys) h = λ i.
-    is_relation_alike db rel i && structure_stands (record { key = rel; spec = to; attrs = attrs_alike db rel i; keys = keys })
+    is_relation_alike db rel i && valid_structure (record { key = rel; spec = to; attrs = attrs_alike db rel i; keys = keys })
 fit_alike db (change.Index base name keys) h = λ i.
     is_relation_alike db base i && (is_any keys && (keys_stand (attrs_alike db base i) keys && free_alike db (key_of base.owner name) i))
 fit_alike db (change.View info query) h = λ i.
     free_alike db info.key i
-    && (view_info_stands info
+    && (valid_view_info info
     && (attrs_stand info.attrs
     && (attrs_are_targets info.attrs (targets_of query)
-    && (vars_there_alike db query i && (not (is_too_high (query_level_alike db query i)) && (query_stands_alike db query i && small_alike db query i))))))
+    && (vars_there_alike db query i && (not (is_too_high (query_level_alike db query i)) && (valid_query_alike db query i && small_alike db query i))))))
 fit_alike db (change.Permit rel permit) h = λ i.
     permit_alike db rel permit i
     && (row_qual_is_storable permit.qual && (permit_lists_are_storable permit && number_is_free most_permits (permit_numbers_alike db rel i) permit.number))

@@ -1,7 +1,7 @@
 pub mod Alike
 pub mod Through
-pub mod Told
+pub mod Known
 pub mod SchemaStands
 pub mod Scopes
-pub mod Judged
+pub mod CheckedTrees
 pub mod LawfulHalves

@@ -17,11 +17,11 @@ use Rattle.calculus.specs.Kinds.{kind_of, kinds_fit}
 use Rattle.calculus.specs.Database.{Db, Relation, Index, View, is_relation, entries, rules_on, permits_on}
 use Rattle.calculus.specs.Stored.{Range, range_at, attrs_at, kinds_at}
 use Rattle.calculus.specs.QueryParts.{vars_of, targets_of, qual_of}
-use Rattle.calculus.specs.IsDatabase.{IsDatabase, key_is_named, structure_stands, attrs_stand, are_stored, relation_rows_fit, keys_stand, index_stands, var_kinds, has_kind, query_stands, vars_are_there, row_qual_stands, user_is_named, permit_attrs_stand, permit_stands}
+use Rattle.calculus.specs.IsDatabase.{IsDatabase, key_is_named, valid_structure, attrs_stand, are_stored, relation_rows_fit, keys_stand, valid_index, var_kinds, has_kind, valid_query, vars_are_there, valid_row_qual, user_is_named, permit_attrs_stand, valid_permit}
 use Rattle.calculus.specs.Schema.{bare, schema_of}
 use Rattle.schema_laws.proofs.Alike.{is_relation_alike, entries_alike, range_alike, attrs_alike, kinds_alike}
 use Rattle.schema_laws.proofs.Through.{level_alike}
-use Rattle.schema_laws.proofs.Told.{size_alike, expanded_alike}
+use Rattle.schema_laws.proofs.Known.{size_alike, expanded_alike}
 
 -- what is asked of the information alone holds of the relations without their rows
 all_bare : (test : RelInfo → Bool) (relations : List Relation) → list_all (λ (r : Relation). test r.info) (map bare relations) ≡ list_all (λ r. test r.info) relations
@@ -47,12 +47,12 @@ few_rows_left (r ∷ relations) = few_rows_left relations
 
 -- ---- what is asked of indexes, views, rules and permits
 
-index_alike : (db : Db) (x : Index) → index_stands (schema_of db) x ≡ index_stands db x
+index_alike : (db : Db) (x : Index) → valid_index (schema_of db) x ≡ valid_index db x
 index_alike db x = λ i.
     is_index x.info.spec && (is_relation_alike db x.base i && (not (is_any x.info.attrs) && (is_any x.info.keys && keys_stand (attrs_alike db x.base i) x.info.keys)))
 
-pub query_stands_alike : (db : Db) (q : Query) → query_stands (schema_of db) q ≡ query_stands db q
-query_stands_alike db q = λ i.
+pub valid_query_alike : (db : Db) (q : Query) → valid_query (schema_of db) q ≡ valid_query db q
+valid_query_alike db q = λ i.
     list_all (λ t. has_kind (kind_of t.term (map (λ key. kinds_alike db key i) (vars_of q))) t.kind) (targets_of q)
     && kinds_fit (qual_of q) (map (λ key. kinds_alike db key i) (vars_of q))
 
@@ -62,10 +62,10 @@ there_alike db key = range_alike is_some (λ r. refl) db key
 pub vars_there_alike : (db : Db) (q : Query) → vars_are_there (schema_of db) q ≡ vars_are_there db q
 vars_there_alike db q = λ i. list_all (λ key. there_alike db key i) (vars_of q)
 
-pub row_qual_alike : (db : Db) (rel : RelKey) (q : QQual) → row_qual_stands (schema_of db) rel q ≡ row_qual_stands db rel q
+pub row_qual_alike : (db : Db) (rel : RelKey) (q : QQual) → valid_row_qual (schema_of db) rel q ≡ valid_row_qual db rel q
 row_qual_alike db rel q = λ i. kinds_fit q (kinds_alike db rel i ∷ [])
 
-pub permit_alike : (db : Db) (rel : RelKey) (permit : Permit) → permit_stands (schema_of db) rel permit ≡ permit_stands db rel permit
+pub permit_alike : (db : Db) (rel : RelKey) (permit : Permit) → valid_permit (schema_of db) rel permit ≡ valid_permit db rel permit
 unfolding schema_of
 permit_alike db rel permit = λ i.
     is_relation_alike db rel i
@@ -86,7 +86,7 @@ schema_is_database db is = record {
   rules_ascend = is.rules_ascend;
   permits_ascend = is.permits_ascend;
   keys_differ = ap (λ (es : List RelInfo). differ_by same_key (map (λ i. i.key) es)) (entries_alike db) ∙ is.keys_differ;
-  structures_stand = all_bare structure_stands db.relations ∙ is.structures_stand;
+  structures_stand = all_bare valid_structure db.relations ∙ is.structures_stand;
   relation_attrs_stand = all_bare (λ i. attrs_stand i.attrs) db.relations ∙ is.relation_attrs_stand;
   relations_are_stored = all_bare (λ i. are_stored i.attrs) db.relations ∙ is.relations_are_stored;
   rows_ascend = no_rows_ascend db.relations;
@@ -97,7 +97,7 @@ schema_is_database db is = record {
   view_attrs_are_targets = is.view_attrs_are_targets;
   views_name_what_is_there = (λ i. list_all (λ (v : View). vars_there_alike db v.query i) db.views) ∙ is.views_name_what_is_there;
   views_have_levels = (λ i. list_all (λ (v : View). is_some (level_alike db v.info.key i)) db.views) ∙ is.views_have_levels;
-  view_queries_stand = (λ i. list_all (λ (v : View). query_stands_alike db v.query i) db.views) ∙ is.view_queries_stand;
+  view_queries_stand = (λ i. list_all (λ (v : View). valid_query_alike db v.query i) db.views) ∙ is.view_queries_stand;
   rules_stand = (λ i. list_all (λ p. is_relation_alike db p.0 i && row_qual_alike db p.0 p.1.qual i) db.rules) ∙ is.rules_stand;
   permits_stand = (λ i. list_all (λ p. permit_alike db p.0 p.1 i) db.permits) ∙ is.permits_stand;
   few_entries = ap (λ (es : List RelInfo). nat_le (length es) most_entries) (entries_alike db) ∙ is.few_entries;

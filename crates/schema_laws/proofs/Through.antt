@@ -2,7 +2,7 @@
 use Rattle.std.proofs.Common.{◌≡◌, refl, sym, ap, ◌∙◌, ℕ, zero, suc, Bool, true, false, List, [], ◌∷◌, map, Option, Some, None}
 use Rattle.calculus.specs.declared.query.RelKey.{RelKey}
 use Rattle.calculus.specs.Limits.{greatest_level}
-use Rattle.calculus.specs.Who.{Who, Free, Asks}
+use Rattle.calculus.specs.Who.{Who, Unrestricted, AsUser}
 use Rattle.calculus.specs.Database.{Db, Relation, View}
 use Rattle.calculus.specs.Stored.{Range, Kept, Viewed, range_at}
 use Rattle.calculus.specs.Through.{Saying, FromBelow, through}
@@ -40,8 +40,8 @@ reads_alike db key = through_alike range_reads (λ below view. vars_read below v
 
 pub permitted_alike : (db : Db) (who : Who) (right : Right) (attrs : List ℕ) (key : RelKey) → permitted (schema_of db) who right attrs key ≡ permitted db who right attrs key
 unfolding permitted schema_of
-permitted_alike db Free right attrs key = refl
-permitted_alike db (Asks asker) right attrs key = refl
+permitted_alike db Unrestricted right attrs key = refl
+permitted_alike db (AsUser asker) right attrs key = refl
 
 range_reading : Db → Who → Saying (List ℕ → Bool)
 range_reading db who of_view key range attrs = range_permitted (λ view. of_view view attrs) db who key attrs range

@@ -23,7 +23,7 @@ use Rattle.quel_meaning.proofs.LeftOfBatch.{nothing_left, statement_next, refusa
 use Rattle.calculus.specs.Database.{Db}
 use Rattle.fault_io.specs.Files.{Files}
 use Rattle.quel_meaning.specs.Ranges.{Ranges}
-use Rattle.session_run.specs.Doing.{Meaning, setting, with_state, left, Did, Goes, Refuses, Stands}
+use Rattle.session_run.specs.Doing.{Meaning, setting, with_state, left, Did, Goes, Refuses, WorksOn}
 use Rattle.session_run.specs.Standing.{Comes, state_on}
 use Rattle.quel_meaning.specs.Session.{printed}
 use Rattle.session_run.proofs.Goings.{goes_first, goes_all, goes_both, goes_done}
@@ -63,15 +63,15 @@ moves_past text from s end e =
     (f.0, omega (arith, f.0, f.1))
 
 -- a statement ran, and its reply was printed
-pub statement_did : (m : Meaning) (k : Kept) (db : Db) (ranges : Ranges) (told : Option Files) (db_now : Db) (ranges_now : Ranges) (told_now : Option Files) (s : Statement) (line : ℕ) (reply : Reply) (old new : List ℕ)
-    → Stands db ranges told k.state → Comes (m (state_on db ranges k.state.shelf) s) db_now ranges_now told_now reply → new ≡ old ++ reply_bytes (at_line line reply)
-    → (now : State) × Stands db_now ranges_now told_now now × Did (after_statement (setting m) k (record { statement = s; line = line })) old new (with_state now k)
+pub statement_did : (m : Meaning) (k : Kept) (db : Db) (ranges : Ranges) (known : Option Files) (db_now : Db) (ranges_now : Ranges) (known_now : Option Files) (s : Statement) (line : ℕ) (reply : Reply) (old new : List ℕ)
+    → WorksOn db ranges known k.state → Comes (m (state_on db ranges k.state.shelf) s) db_now ranges_now known_now reply → new ≡ old ++ reply_bytes (at_line line reply)
+    → (now : State) × WorksOn db_now ranges_now known_now now × Did (after_statement (setting m) k (record { statement = s; line = line })) old new (with_state now k)
 unfolding after_statement printed
-statement_did m k db ranges told db_now ranges_now told_now s line reply old new stands comes grown =
+statement_did m k db ranges known db_now ranges_now known_now s line reply old new stands comes grown =
     let now = state_on db_now ranges_now comes.files in
     let is : m k.state s ≡ record { state = now; reply = reply } = ap (λ (x : State). m x s) stands.is ∙ comes.is in (
       now,
-      record { told_so = comes.told_so; is = refl },
+      record { known_so = comes.known_so; is = refl },
       subst (λ (o : Outcome). Did (after_outcome k line o) old new (with_state now k)) (sym is)
           (record { output = grown ∙ ap (λ (x : List ℕ). old ++ x) (sym (append-nil (reply_bytes (at_line line reply)))); keeps = refl }),
     )

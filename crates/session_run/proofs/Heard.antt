@@ -6,7 +6,7 @@ use Rattle.std.specs.declared.option.Option.{Option}
 use Rattle.std.proofs.KnownBytes.{Appends-nil, Appends-trans}
 use Rattle.std.specs.List.{list_all}
 use Rattle.fault_io.specs.Files.{Files}
-use Rattle.fault_io.specs.Told.{IsFront, GrewBy}
+use Rattle.fault_io.specs.Known.{IsFront, GrewBy}
 use Rattle.quel_meaning.specs.Buffer.{empty_buffer}
 use Rattle.quel_meaning.specs.Happening.{Kept, After, start}
 use Rattle.quel_meaning.specs.Lines.{is_no_newline}
@@ -117,9 +117,9 @@ same_partly means u v a xs w0 w1 e h = subst (λ (w : Asker). HearsPartly (means
 -- ---- the begin
 
 -- nothing was heard, and a shelf tells these files
-pub begins_heard : (l : Listening) (asker : Asker) (db : Db) (ranges : Ranges) (told : Option Files) (files : Files)
-    → l ≡ record { running = record { asker = asker; db = db; ranges = ranges; buffer = empty_buffer; included = 0; quit = false; files = [] }; partial = [] } → told ≡ Some files
-    → IsHeard l told (record { kept = start (state_on db ranges files); partial = [] })
-begins_heard l asker db ranges told files e telling =
-    subst (λ (x : Listening). IsHeard x told (record { kept = start (state_on db ranges files); partial = [] })) (sym e)
-    (record { kept = record { stands = record { told_so = telling; is = refl }; buffer = refl; included = refl; quit = refl }; partial = refl; none_open = refl })
+pub begins_heard : (l : Listening) (asker : Asker) (db : Db) (ranges : Ranges) (known : Option Files) (files : Files)
+    → l ≡ record { running = record { asker = asker; db = db; ranges = ranges; buffer = empty_buffer; included = 0; quit = false; files = [] }; partial = [] } → known ≡ Some files
+    → IsHeard l known (record { kept = start (state_on db ranges files); partial = [] })
+begins_heard l asker db ranges known files e knowing =
+    subst (λ (x : Listening). IsHeard x known (record { kept = start (state_on db ranges files); partial = [] })) (sym e)
+    (record { kept = record { stands = record { known_so = knowing; is = refl }; buffer = refl; included = refl; quit = refl }; partial = refl; none_open = refl })

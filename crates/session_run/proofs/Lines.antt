@@ -5,7 +5,7 @@ use Rattle.std.specs.Prelude.{◌&&◌, ◌==◌, not, nat_lt, slice_index}
 use Rattle.std.proofs.lemmas.Bool.{lt-ltb}
 use Rattle.std.specs.List.{list_all}
 use Rattle.std.specs.Io.BufRead.{ends_with_byte}
-use Rattle.fault_io.specs.Told.{IsFront}
+use Rattle.fault_io.specs.Known.{IsFront}
 use Rattle.quel_meaning.specs.Happening.{Kept, After, quiet, over}
 use Rattle.quel_meaning.specs.Lines.{lines_of, whole_lines, is_no_newline}
 use Rattle.quel_meaning.specs.Running.{after_lines}

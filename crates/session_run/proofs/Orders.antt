@@ -118,12 +118,12 @@ written m k name files old some =
     (λ deeper. subst (λ (a : After). Did a old old now) (sym ((named_is m deeper k name some).1)) (quiet_did now old))
 
 -- so this is kept
-pub written_kept : (r : Running) (told told_now : Option Files) (k : Kept) (name : List ℕ) → IsKept r told k → told_now ≡ Some (stored k.state.shelf name r.buffer.text)
-    → IsKept r told_now (record k { state = record k.state { shelf = stored k.state.shelf name k.buffer.text } })
-written_kept r told told_now k name kept e =
+pub written_kept : (r : Running) (known known_now : Option Files) (k : Kept) (name : List ℕ) → IsKept r known k → known_now ≡ Some (stored k.state.shelf name r.buffer.text)
+    → IsKept r known_now (record k { state = record k.state { shelf = stored k.state.shelf name k.buffer.text } })
+written_kept r known known_now k name kept e =
     let shelf = stored k.state.shelf name k.buffer.text in record {
       stands = record {
-        told_so = e ∙ ap (λ (b : Buffer). Some (stored k.state.shelf name b.text)) (sym kept.buffer);
+        known_so = e ∙ ap (λ (b : Buffer). Some (stored k.state.shelf name b.text)) (sym kept.buffer);
         is = ap (λ (s : State). record s { shelf = shelf }) kept.stands.is;
       };
       buffer = kept.buffer;
@@ -254,5 +254,5 @@ same_limits b bytes bytes2 included included2 files files2 p q r e =
     ap (λ (n : ℕ). may_include n included2 files2) p ∙ ap (λ (n : ℕ). may_include bytes n files2) q ∙ ap (λ (n : ℕ). may_include bytes included n) r ∙ e
 
 -- the shelf tells the same
-pub same_told : (r : Running) (told told_now : Option Files) (k : Kept) → IsKept r told k → told_now ≡ told → IsKept r told_now k
-same_told r told told_now k kept e = subst (λ (t : Option Files). IsKept r t k) (sym e) kept
+pub same_known : (r : Running) (known known_now : Option Files) (k : Kept) → IsKept r known k → known_now ≡ known → IsKept r known_now k
+same_known r known known_now k kept e = subst (λ (t : Option Files). IsKept r t k) (sym e) kept

@@ -7,7 +7,7 @@ use Rattle.std.proofs.KnownBytes.{Appends-nil, Appends-trans, Consumes-nil, Cons
 use Rattle.std.proofs.Math.Seq.{take-append_seam, drop-append_seam}
 use Rattle.std.proofs.lemmas.List.{drop-drop}
 use Rattle.fault_io.specs.Files.{Files}
-use Rattle.fault_io.specs.Told.{IsFront, GrewBy}
+use Rattle.fault_io.specs.Known.{IsFront, GrewBy}
 use Rattle.quel_meaning.specs.Happening.{Kept, After, start, quiet}
 use Rattle.quel_meaning.specs.Lines.{is_no_newline}
 use Rattle.quel_meaning.specs.Session.{Session, printed, output, session_after, session_of, session_of_lines}
@@ -79,10 +79,10 @@ goes_on m state left0 left1 left2 written0 written1 written2 heard now given rea
       (begins_both (done_by m state last (runs.taken ++ (piece ++ rest))) (later m last heard (piece ++ rest)) (later m last now rest) runs.out hears.0 (runs.same last (piece ++ rest)) (hears.2 last rest));
 }
 
--- the bytes of a script that is told are those taken and those left
-told : (script : List ℕ) (left1 : Option (List ℕ)) (taken : List ℕ) → Consumes (Some script) left1 taken → (rest : List ℕ) × (left1 ≡ Some rest) × (script ≡ taken ++ rest)
-told script None taken read = absurd read
-told script (Some rest) taken read = (rest, refl, read)
+-- the bytes of a script that is known are those taken and those left
+known : (script : List ℕ) (left1 : Option (List ℕ)) (taken : List ℕ) → Consumes (Some script) left1 taken → (rest : List ℕ) × (left1 ≡ Some rest) × (script ≡ taken ++ rest)
+known script None taken read = absurd read
+known script (Some rest) taken read = (rest, refl, read)
 
 -- what the script prints is what was printed, and what is still to come
 output_of : (m : Meaning) (state : State) (left0 left1 written0 written1 : Option (List ℕ)) (heard : Heard) (given : ℕ) (runs : Runs m state left0 left1 written0 written1 heard given) (script rest : List ℕ)
@@ -95,7 +95,7 @@ pub partly : (m : Meaning) (state : State) (left0 left1 written0 written1 writte
     → IsPartlyDone m state left0 written0 written2
 partly m state None left1 written0 written1 written2 heard given more runs grown front = tt
 partly m state (Some script) left1 written0 written1 written2 heard given more runs grown front =
-    let t = told script left1 runs.taken runs.read in
+    let t = known script left1 runs.taken runs.read in
     let f = front t.0 t.1 in (
       runs.out ++ more,
       Appends-trans written0 written1 written2 runs.out more runs.grown grown,
@@ -113,7 +113,7 @@ pub partly_heard : (m : Meaning) (state : State) (left0 left1 left2 written0 wri
     → Runs m state left0 left1 written0 written1 heard given → Consumes left1 left2 read → read ≡ piece → HearsPartly m heard piece written1 written2 → IsPartlyDone m state left0 written0 written2
 partly_heard m state left0 left1 left2 written0 written1 written2 heard given read piece runs consumed same hears =
     partly m state left0 left1 written0 written1 written2 heard given hears.0 runs hears.1
-    (λ rest e. let t = told rest left2 read (subst (λ (l : Option (List ℕ)). Consumes l left2 read) e consumed) in subst (λ (x : List ℕ). IsFront hears.0 (printed (later m true heard x).events)) (sym (t.2 ∙ ap (λ (x : List ℕ). x ++ t.0) same)) (hears.2 t.0))
+    (λ rest e. let t = known rest left2 read (subst (λ (l : Option (List ℕ)). Consumes l left2 read) e consumed) in subst (λ (x : List ℕ). IsFront hears.0 (printed (later m true heard x).events)) (sym (t.2 ∙ ap (λ (x : List ℕ). x ++ t.0) same)) (hears.2 t.0))
 
 -- at the end of the script
 pub partly_closed : (m : Meaning) (state : State) (left0 left1 written0 written1 written2 : Option (List ℕ)) (heard : Heard) (given : ℕ)
@@ -143,19 +143,19 @@ state_of m state left0 left1 written0 written1 heard given runs script rest e =
     ∙ ap (λ (k : Kept). k.state) ((runs.same true rest).keeps)
 
 -- all was read, and the last line was handled
-pub closes : (m : Meaning) (state : State) (left0 left1 written0 written1 written2 : Option (List ℕ)) (heard : Heard) (given : ℕ) (told : Option Files) (now : Kept)
-    → Runs m state left0 left1 written0 written1 heard given → IsAtEnd left1 → GrewBy written1 written2 (λ more. Did (later m true heard []) [] more now) → told ≡ Some now.state.shelf
-    → IsDone m state left0 left1 written0 written2 told
-closes m state None left1 written0 written1 written2 heard given told now runs end closed telling = tt
-closes m state (Some script) None written0 written1 written2 heard given told now runs end closed telling = absurd runs.read
-closes m state (Some script) (Some rest) written0 written1 written2 heard given told now runs end closed telling =
+pub closes : (m : Meaning) (state : State) (left0 left1 written0 written1 written2 : Option (List ℕ)) (heard : Heard) (given : ℕ) (known : Option Files) (now : Kept)
+    → Runs m state left0 left1 written0 written1 heard given → IsAtEnd left1 → GrewBy written1 written2 (λ more. Did (later m true heard []) [] more now) → known ≡ Some now.state.shelf
+    → IsDone m state left0 left1 written0 written2 known
+closes m state None left1 written0 written1 written2 heard given known now runs end closed knowing = tt
+closes m state (Some script) None written0 written1 written2 heard given known now runs end closed knowing = absurd runs.read
+closes m state (Some script) (Some rest) written0 written1 written2 heard given known now runs end closed knowing =
     let parts : script ≡ runs.taken ++ [] = runs.read ∙ ap (λ (x : List ℕ). runs.taken ++ x) end in
     let grown = subst (λ (x : List ℕ). Appends written1 written2 x) closed.2.output closed.1 in (
       inl (ap Some end),
       subst (λ (x : List ℕ). Appends written0 written2 x)
           (sym (output_of m state (Some script) (Some rest) written0 written1 heard given runs script [] parts))
           (Appends-trans written0 written1 written2 runs.out (printed (later m true heard []).events) runs.grown grown),
-      telling ∙ ap (λ (k : Kept). Some k.state.shelf) closed.2.keeps ∙ ap (λ (s : State). Some s.shelf) (sym (state_of m state (Some script) (Some rest) written0 written1 heard given runs script [] parts)),
+      knowing ∙ ap (λ (k : Kept). Some k.state.shelf) closed.2.keeps ∙ ap (λ (s : State). Some s.shelf) (sym (state_of m state (Some script) (Some rest) written0 written1 heard given runs script [] parts)),
     )
 
 -- nothing more is printed
@@ -164,11 +164,11 @@ unfolding printed
 nothing_printed out kept = append-nil out
 
 -- a command ended the session
-pub quits : (m : Meaning) (state : State) (left0 left1 written0 written1 : Option (List ℕ)) (heard : Heard) (given : ℕ) (told : Option Files)
-    → Runs m state left0 left1 written0 written1 heard given → heard.kept.quit ≡ true → told ≡ Some heard.kept.state.shelf → IsDone m state left0 left1 written0 written1 told
-quits m state None left1 written0 written1 heard given told runs quit telling = tt
-quits m state (Some script) None written0 written1 heard given told runs quit telling = absurd runs.read
-quits m state (Some script) (Some rest) written0 written1 heard given told runs quit telling =
+pub quits : (m : Meaning) (state : State) (left0 left1 written0 written1 : Option (List ℕ)) (heard : Heard) (given : ℕ) (known : Option Files)
+    → Runs m state left0 left1 written0 written1 heard given → heard.kept.quit ≡ true → known ≡ Some heard.kept.state.shelf → IsDone m state left0 left1 written0 written1 known
+quits m state None left1 written0 written1 heard given known runs quit knowing = tt
+quits m state (Some script) None written0 written1 heard given known runs quit knowing = absurd runs.read
+quits m state (Some script) (Some rest) written0 written1 heard given known runs quit knowing =
     let still = hears_end true m heard rest quit in
     let said : output (whole m state script) ≡ runs.out =
     output_of m state (Some script) (Some rest) written0 written1 heard given runs script rest runs.read
@@ -182,7 +182,7 @@ quits m state (Some script) (Some rest) written0 written1 heard given told runs 
     ∙ quit in
     let leaves : (whole m state script).state ≡ heard.kept.state =
     state_of m state (Some script) (Some rest) written0 written1 heard given runs script rest runs.read ∙ ap (λ (a : After). a.kept.state) still in
-    (inr ended, subst (λ (x : List ℕ). Appends written0 written1 x) (sym said) runs.grown, telling ∙ ap (λ (s : State). Some s.shelf) (sym leaves))
+    (inr ended, subst (λ (x : List ℕ). Appends written0 written1 x) (sym said) runs.grown, knowing ∙ ap (λ (s : State). Some s.shelf) (sym leaves))
 
 taken_front : (taken rest : List ℕ) (n : ℕ) → length taken ≡ n → take n (taken ++ rest) ≡ taken
 taken_front taken rest n e = rw (← e) (take-append_seam taken rest)
@@ -235,8 +235,8 @@ pub keeps_up : (m : Meaning) (state : State) (left0 left1 left2 written0 written
     → (more : List ℕ) → Appends written1 written2 more → IsKeptUp m state left0 left2 written0 written2
 keeps_up m state None left1 left2 written0 written1 written2 heard given piece runs still_open line consumed small more grown = tt
 keeps_up m state (Some script) left1 left2 written0 written1 written2 heard given piece runs still_open line consumed small more grown =
-    let t = told script left1 runs.taken runs.read in
-    let u = told t.0 left2 piece (subst (λ (l : Option (List ℕ)). Consumes l left2 piece) t.1 consumed) in
+    let t = known script left1 runs.taken runs.read in
+    let u = known t.0 left2 piece (subst (λ (l : Option (List ℕ)). Consumes l left2 piece) t.1 consumed) in
     let says = says_lines m state (Some script) left1 written0 written1 heard given runs script t.0 t.2 still_open line in
     record {
       heard = given;
@@ -263,36 +263,36 @@ pub keeps_up_read : (m : Meaning) (state : State) (left0 left1 left2 written0 wr
 keeps_up_read m state left0 left1 left2 written0 written1 heard given runs still_open line kept =
     keeps_up m state left0 left1 left2 written0 written1 written1 heard given [] runs still_open line (keeps_consumes left1 left2 kept) (omega arith) [] (Appends-nil written1)
 
-pub breaks_off : (m : Meaning) (state : State) (left0 left1 left2 written0 written1 : Option (List ℕ)) (heard : Heard) (given : ℕ) (told_files : Option Files)
-    → Runs m state left0 left1 written0 written1 heard given → heard.kept.quit ≡ false → list_all is_no_newline heard.partial ≡ true → Keeps left1 left2 → told_files ≡ Some heard.kept.state.shelf
-    → IsBrokenOff m state left0 left2 written0 written1 told_files
-breaks_off m state None left1 left2 written0 written1 heard given told_files runs still_open line kept telling = tt
-breaks_off m state (Some script) left1 left2 written0 written1 heard given told_files runs still_open line kept telling =
-    let t = told script left1 runs.taken runs.read in
-    let u = told t.0 left2 [] (subst (λ (l : Option (List ℕ)). Consumes l left2 []) t.1 (keeps_consumes left1 left2 kept)) in
+pub breaks_off : (m : Meaning) (state : State) (left0 left1 left2 written0 written1 : Option (List ℕ)) (heard : Heard) (given : ℕ) (known_files : Option Files)
+    → Runs m state left0 left1 written0 written1 heard given → heard.kept.quit ≡ false → list_all is_no_newline heard.partial ≡ true → Keeps left1 left2 → known_files ≡ Some heard.kept.state.shelf
+    → IsBrokenOff m state left0 left2 written0 written1 known_files
+breaks_off m state None left1 left2 written0 written1 heard given known_files runs still_open line kept knowing = tt
+breaks_off m state (Some script) left1 left2 written0 written1 heard given known_files runs still_open line kept knowing =
+    let t = known script left1 runs.taken runs.read in
+    let u = known t.0 left2 [] (subst (λ (l : Option (List ℕ)). Consumes l left2 []) t.1 (keeps_consumes left1 left2 kept)) in
     let says = says_lines m state (Some script) left1 written0 written1 heard given runs script t.0 t.2 still_open line in
     record {
       heard = given;
       read = u.1 ∙ ap Some (sym (says.rest_is ∙ u.2));
       goes_on = says.goes_on;
       printed = subst (λ (x : List ℕ). Appends written0 written1 x) (sym says.output_is) runs.grown;
-      shelved = telling ∙ ap (λ (s : State). Some s.shelf) (sym says.leaves);
+      shelved = knowing ∙ ap (λ (s : State). Some s.shelf) (sym says.leaves);
     }
 
 -- one byte more came behind the greatest script
-pub cuts_off : (m : Meaning) (state : State) (left0 left1 left2 written0 written1 : Option (List ℕ)) (heard : Heard) (given : ℕ) (more : List ℕ) (told_files : Option Files)
+pub cuts_off : (m : Meaning) (state : State) (left0 left1 left2 written0 written1 : Option (List ℕ)) (heard : Heard) (given : ℕ) (more : List ℕ) (known_files : Option Files)
     → Runs m state left0 left1 written0 written1 heard given → given ≡ 16777216 → heard.kept.quit ≡ false → list_all is_no_newline heard.partial ≡ true → Consumes left1 left2 more → length more ≡ 1
-    → told_files ≡ Some heard.kept.state.shelf → IsCutOff m state left0 left2 written0 written1 told_files
-cuts_off m state None left1 left2 written0 written1 heard given more told_files runs full still_open line consumed one telling = tt
-cuts_off m state (Some script) left1 left2 written0 written1 heard given more told_files runs full still_open line consumed one telling =
-    let t = told script left1 runs.taken runs.read in
-    let u = told t.0 left2 more (subst (λ (l : Option (List ℕ)). Consumes l left2 more) t.1 consumed) in
+    → known_files ≡ Some heard.kept.state.shelf → IsCutOff m state left0 left2 written0 written1 known_files
+cuts_off m state None left1 left2 written0 written1 heard given more known_files runs full still_open line consumed one knowing = tt
+cuts_off m state (Some script) left1 left2 written0 written1 heard given more known_files runs full still_open line consumed one knowing =
+    let t = known script left1 runs.taken runs.read in
+    let u = known t.0 left2 more (subst (λ (l : Option (List ℕ)). Consumes l left2 more) t.1 consumed) in
     let says = subst (λ (n : ℕ). SaysLines m state script n heard.kept runs.out t.0) full (says_lines m state (Some script) left1 written0 written1 heard given runs script t.0 t.2 still_open line) in
     record {
       read = u.1 ∙ ap Some (sym (subst (λ (n : ℕ). drop (16777216 + n) script ≡ u.0) one (drop_both 16777216 script more u.0 (says.rest_is ∙ u.2))));
       goes_on = says.goes_on;
       printed = subst (λ (x : List ℕ). Appends written0 written1 x) (sym says.output_is) runs.grown;
-      shelved = telling ∙ ap (λ (s : State). Some s.shelf) (sym says.leaves);
+      shelved = knowing ∙ ap (λ (s : State). Some s.shelf) (sym says.leaves);
     }
 
 -- where one byte more came behind the greatest script, that is all that was read
@@ -301,6 +301,6 @@ pub reads_past : (left0 left1 left2 : Option (List ℕ)) (given : ℕ) (more : L
 reads_past None left1 left2 given more took full consumed one = tt
 reads_past (Some script) left1 left2 given more took full consumed one =
     let t = took_on (Some script) left1 left2 given more 1 took consumed one in
-    let u = told script left2 t.taken t.read in
+    let u = known script left2 t.taken t.read in
     let all : 0 + length t.taken ≡ 16777217 = omega (arith, t.count, full) in
     u.1 ∙ ap Some (sym (subst (λ (n : ℕ). drop n script ≡ u.0) all (drop_both 0 script t.taken u.0 u.2)))

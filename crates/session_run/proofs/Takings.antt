@@ -4,7 +4,7 @@ use Rattle.std.specs.declared.option.Option.{Option}
 use Rattle.std.specs.Io.KnownBytes.{Appends}
 use Rattle.std.proofs.KnownBytes.{Appends-trans}
 use Rattle.fault_io.specs.Files.{Files}
-use Rattle.fault_io.specs.Told.{IsFront, GrewBy}
+use Rattle.fault_io.specs.Known.{IsFront, GrewBy}
 use Rattle.quel_meaning.specs.Happening.{Kept, After}
 use Rattle.quel_meaning.specs.OpenFiles.{OpenFiles, after_files, after_rest}
 use Rattle.quel_meaning.specs.Running.{most_included}
@@ -116,5 +116,5 @@ line_taken_then m k now line files files_now w0 w1 w2 none step all = (
 -- ---- what is kept
 
 -- a line was taken of the open files
-pub next_kept : (r now : Running) (told : Option Files) (k : Kept) → IsKept r told k → now ≡ record r { files = now.files } → IsKept now told k
-next_kept r now told k kept e = subst (λ (x : Running). IsKept x told k) (sym e) (record { stands = kept.stands; buffer = kept.buffer; included = kept.included; quit = kept.quit })
+pub next_kept : (r now : Running) (known : Option Files) (k : Kept) → IsKept r known k → now ≡ record r { files = now.files } → IsKept now known k
+next_kept r now known k kept e = subst (λ (x : Running). IsKept x known k) (sym e) (record { stands = kept.stands; buffer = kept.buffer; included = kept.included; quit = kept.quit })

@@ -40,14 +40,14 @@ pub record Running : Type 0 where
   pub quit : Bool
   pub files : OpenFiles
 
--- the next statement works on this database, these range variables, and the files that the shelf tells
-pub record Stands (db : Db) (ranges : Ranges) (told : Option Files) (state : State) : Type 0 where
-  pub told_so : told ≡ Some state.shelf
+-- the next statement works on this database, these range variables, and the files that are known of the shelf
+pub record WorksOn (db : Db) (ranges : Ranges) (known : Option Files) (state : State) : Type 0 where
+  pub known_so : known ≡ Some state.shelf
   pub is : state ≡ state_on db ranges state.shelf
 
--- this is what the session keeps, with the files that the shelf tells
-pub record IsKept (running : Running) (told : Option Files) (kept : Kept) : Type 0 where
-  pub stands : Stands running.db running.ranges told kept.state
+-- this is what the session keeps, with the files that are known of the shelf
+pub record IsKept (running : Running) (known : Option Files) (kept : Kept) : Type 0 where
+  pub stands : WorksOn running.db running.ranges known kept.state
   pub buffer : kept.buffer ≡ running.buffer
   pub included : kept.included ≡ running.included
   pub quit : kept.quit ≡ running.quit

@@ -2,7 +2,7 @@
 use Rattle.std.specs.Prelude.{◌≡◌, ◌⊎◌, ℕ, Bool, true, false, List, [], ◌∷◌, ◌++◌, Option, Result, IsErrOf}
 use Rattle.fault_io.specs.Causes.{Rose}
 use Rattle.fault_io.specs.Files.{Files}
-use Rattle.fault_io.specs.Told.{IsFront, GrewBy}
+use Rattle.fault_io.specs.Known.{IsFront, GrewBy}
 use Rattle.quel_meaning.specs.Happening.{Kept, After}
 use Rattle.quel_meaning.specs.Lines.{lines_of, whole_lines}
 use Rattle.quel_meaning.specs.OpenFiles.{OpenFiles, after_files, after_rest}
@@ -22,9 +22,9 @@ pub record Heard : Type 0 where
   pub kept : Kept
   pub partial : List ℕ
 
--- this was heard, with the files that the shelf tells, and no included file is open
-pub record IsHeard (listening : Listening) (told : Option Files) (heard : Heard) : Type 0 where
-  pub kept : IsKept listening.running told heard.kept
+-- this was heard, with the files that are known of the shelf, and no included file is open
+pub record IsHeard (listening : Listening) (known : Option Files) (heard : Heard) : Type 0 where
+  pub kept : IsKept listening.running known heard.kept
   pub partial : heard.partial ≡ listening.partial
   pub none_open : listening.running.files ≡ []
 

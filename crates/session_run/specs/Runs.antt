@@ -2,7 +2,7 @@
 use Rattle.std.specs.Prelude.{◌≡◌, ◌⊎◌, ℕ, ◌+◌, ◌<◌, ◌≤◌, true, false, List, [], take, drop, length, Option, Some, IfSome}
 use Rattle.std.specs.Io.KnownBytes.{Appends}
 use Rattle.fault_io.specs.Files.{Files}
-use Rattle.fault_io.specs.Told.{IsFront, GrewBy}
+use Rattle.fault_io.specs.Known.{IsFront, GrewBy}
 use Rattle.quel_meaning.specs.Lines.{whole_lines}
 use Rattle.quel_meaning.specs.Session.{Session, session_of_lines, session_of, output}
 use Rattle.quel_meaning.specs.State.{State}
@@ -35,7 +35,7 @@ pub record CutOff (meaning : Meaning) (state : State) (script : List ℕ) (left_
   pub printed : Appends written_old written_new (output (within 16777216 meaning state script))
   pub shelved : files_new ≡ Some (within 16777216 meaning state script).state.shelf
 
--- the same, where the script is told
+-- the same, where the script is known
 abbrev pub IsCutOff : Meaning → State → Option (List ℕ) → Option (List ℕ) → Option (List ℕ) → Option (List ℕ) → Option Files → Type 0
 IsCutOff meaning state left_old left_new written_old written_new files_new = IfSome left_old (λ script. CutOff meaning state script left_new written_old written_new files_new)
 
@@ -48,7 +48,7 @@ pub record KeptUp (meaning : Meaning) (state : State) (script : List ℕ) (left_
   pub goes_on : (within heard meaning state script).quit ≡ false
   pub printed : GrewBy written_old written_new (λ more. IsFront (output (within heard meaning state script)) more)
 
--- the same, where the script is told
+-- the same, where the script is known
 abbrev pub IsKeptUp : Meaning → State → Option (List ℕ) → Option (List ℕ) → Option (List ℕ) → Option (List ℕ) → Type 0
 IsKeptUp meaning state left_old left_new written_old written_new = IfSome left_old (λ script. KeptUp meaning state script left_new written_old written_new)
 
@@ -60,7 +60,7 @@ pub record BrokenOff (meaning : Meaning) (state : State) (script : List ℕ) (le
   pub printed : Appends written_old written_new (output (within heard meaning state script))
   pub shelved : files_new ≡ Some (within heard meaning state script).state.shelf
 
--- the same, where the script is told
+-- the same, where the script is known
 abbrev pub IsBrokenOff : Meaning → State → Option (List ℕ) → Option (List ℕ) → Option (List ℕ) → Option (List ℕ) → Option Files → Type 0
 IsBrokenOff meaning state left_old left_new written_old written_new files_new = IfSome left_old (λ script. BrokenOff meaning state script left_new written_old written_new files_new)
 
@@ -68,7 +68,7 @@ IsBrokenOff meaning state left_old left_new written_old written_new files_new = 
 abbrev pub GaveTooMuch : List ℕ → List ℕ → Type 0
 GaveTooMuch old new = 16777216 + length new < length old
 
--- the script is told, and has at most 16,777,216 bytes, or one of the lines that lie wholly in these ends the session
+-- the script is known, and has at most 16,777,216 bytes, or one of the lines that lie wholly in these ends the session
 abbrev pub IsWithinLimit : Meaning → State → Option (List ℕ) → Type 0
 IsWithinLimit meaning state left =
     (script : List ℕ) × (left ≡ Some script) × ((length script ≤ 16777216) ⊎ ((within 16777216 meaning state script).quit ≡ true))

@@ -10,8 +10,8 @@ use Rattle.quel_meaning.specs.State.{State, Outcome}
 abbrev pub state_on : Db → Ranges → Files → State
 state_on db ranges files = record { db = db; shelf = files; ranges = ranges }
 
--- the outcome is this database, these range variables, the files that the shelf tells, and this reply
-pub record Comes (outcome : Outcome) (db : Db) (ranges : Ranges) (told : Option Files) (reply : Reply) : Type 0 where
+-- the outcome is this database, these range variables, the files that are known of the shelf, and this reply
+pub record Comes (outcome : Outcome) (db : Db) (ranges : Ranges) (known : Option Files) (reply : Reply) : Type 0 where
   pub files : Files
-  pub told_so : told ≡ Some files
+  pub known_so : known ≡ Some files
   pub is : outcome ≡ record { state = state_on db ranges files; reply = reply }

@@ -3,7 +3,7 @@
 ghost use Rattle.std.specs.Prelude.{◌≡◌, ◌++◌, ◌<◌, ℕ, length, option_map, Some, true, IfOk, OnOk, IfSome};
 ghost use Rattle.calculus.specs.declared.reply.Reply.TheVariants.{Refused};
 ghost use Rattle.fault_io.specs.Shelves.{HasShelfCause};
-ghost use Rattle.quel_grammar.specs.Next.{first_place};
+ghost use Rattle.quel_grammar.specs.Next.{first_offset};
 ghost use Rattle.quel_grammar.specs.NextReader.{next_at};
 ghost use Rattle.quel_meaning.specs.Batch.{batch_of};
 ghost use Rattle.quel_meaning.specs.Happening.{Kept};
@@ -12,14 +12,14 @@ ghost use Rattle.quel_meaning.specs.Printed.{reply_bytes};
 ghost use Rattle.quel_meaning.specs.Running.{after_batch, after_statement, at_line};
 ghost use Rattle.quel_meaning.specs.State.{State};
 ghost use Rattle.session_run.specs.Counted.{IsCounted};
-ghost use Rattle.session_run.specs.Doing.{Did, Goes, Refuses, Stands, left, setting, with_state};
+ghost use Rattle.session_run.specs.Doing.{Did, Goes, Refuses, WorksOn, left, setting, with_state};
 
 use crate::Statements;
 use crate::counted::Counted;
 use calculus::{OutOfMemory, Refusal, Reply, Statement};
 use fault_io::{Shelf, ShelfFault};
 use monitor::push_reply;
-use quel_lexer::first_place;
+use quel_lexer::first_offset;
 use quel_parse::{ParseFault, next_statement};
 use std::alloc::Global;
 
@@ -76,8 +76,8 @@ fn run_placed<S: Statements, H: Shelf>(
     out: &mut Vec<u8>,
 ) -> Result<(), ShelfFault>
     requires { is_written s.now ≡ true }
-    ensures did { (k : Kept) → Stands (S.db statements.old) (S.ranges statements.old) (H.files shelf.old) k.state
-        → OnOk result ((now : State) × Stands (S.db statements.new) (S.ranges statements.new) (H.files shelf.new) now
+    ensures did { (k : Kept) → WorksOn (S.db statements.old) (S.ranges statements.old) (H.files shelf.old) k.state
+        → OnOk result ((now : State) × WorksOn (S.db statements.new) (S.ranges statements.new) (H.files shelf.new) now
         × Did (after_statement (setting (S.meaning (S.asker statements.old))) k (record { statement = s.now; line = line })) out.old.items out.new.items (with_state now k)) }
     ensures same { S.asker statements.new ≡ S.asker statements.old }
     ensures cause { HasShelfCause (H.faults shelf.old) (H.faults shelf.new) result }
@@ -93,10 +93,10 @@ fn run_placed<S: Statements, H: Shelf>(
 fn next_place(alloc: Global, text: &[u8], walk: Walk) -> Result<Counted, ShelfFault>
     requires { IsCounted text.now walk.counted }
     ensures counted { IfOk result (λ c. IsCounted text.now c) }
-    ensures place { IfOk result (λ c. c.place ≡ first_place text.now walk.at) }
+    ensures place { IfOk result (λ c. c.place ≡ first_offset text.now walk.at) }
     ensures memory { (n : ℕ) → HasShelfCause n n result }
 {
-    match first_place(alloc, text, walk.at) {
+    match first_offset(alloc, text, walk.at) {
         Ok(first) => Ok(walk.counted.at(text, first)),
         Err(OutOfMemory) => Err(ShelfFault::OutOfMemory),
     }
@@ -113,8 +113,8 @@ fn step<S: Statements, H: Shelf>(
     out: &mut Vec<u8>,
 ) -> Result<Option<Walk>, ShelfFault>
     requires { IsCounted text.now walk.counted }
-    ensures goes { (k : Kept) → Stands (S.db statements.old) (S.ranges statements.old) (H.files shelf.old) k.state
-        → IfOk result (λ next. (now : State) × Stands (S.db statements.new) (S.ranges statements.new) (H.files shelf.new) now × Goes
+    ensures goes { (k : Kept) → WorksOn (S.db statements.old) (S.ranges statements.old) (H.files shelf.old) k.state
+        → IfOk result (λ next. (now : State) × WorksOn (S.db statements.new) (S.ranges statements.new) (H.files shelf.new) now × Goes
         (left (setting (S.meaning (S.asker statements.old))) text.now (Some walk.at) k) out.old.items
         (left (setting (S.meaning (S.asker statements.old))) text.now (option_map (λ w. w.at) next) (with_state now k)) out.new.items) }
     ensures further { IfOk result (λ next. IfSome next (λ w. (walk.at < w.at) × (walk.at < length text.now))) }
@@ -146,8 +146,8 @@ pub(crate) fn run_batch<S: Statements, H: Shelf>(
     text: &[u8],
     out: &mut Vec<u8>,
 ) -> Result<(), ShelfFault>
-    ensures did { (k : Kept) → Stands (S.db statements.old) (S.ranges statements.old) (H.files shelf.old) k.state
-        → OnOk result ((now : State) × Stands (S.db statements.new) (S.ranges statements.new) (H.files shelf.new) now
+    ensures did { (k : Kept) → WorksOn (S.db statements.old) (S.ranges statements.old) (H.files shelf.old) k.state
+        → OnOk result ((now : State) × WorksOn (S.db statements.new) (S.ranges statements.new) (H.files shelf.new) now
         × Did (after_batch (setting (S.meaning (S.asker statements.old))) (batch_of next_at text.now) k) out.old.items out.new.items (with_state now k)) }
     ensures same { S.asker statements.new ≡ S.asker statements.old }
     ensures cause { HasShelfCause (H.faults shelf.old) (H.faults shelf.new) result }

@@ -3,7 +3,7 @@
 ghost use Rattle.std.specs.Prelude.{◌≡◌, ◌≤◌, ◌∷◌, [], true, false, ◌==◌, OnOk, OnErr, IsErrOf};
 ghost use Rattle.std.specs.List.{list_all};
 ghost use Rattle.quel_meaning.specs.Lines.{is_no_newline};
-ghost use Rattle.fault_io.specs.Told.{IsFront, GrewBy};
+ghost use Rattle.fault_io.specs.Known.{IsFront, GrewBy};
 ghost use Rattle.quel_meaning.specs.Buffer.{empty_buffer};
 ghost use Rattle.quel_meaning.specs.Happening.{Kept};
 ghost use Rattle.quel_meaning.specs.Session.{printed};

@@ -162,7 +162,7 @@ impl<S: Statements> Session<S> {
 
     /// Opens an included file, or refuses it where too much is open or was included.
     fn open(&mut self, bytes: Vec<u8>, out: &mut Vec<u8>) -> Result<(), ShelfFault>
-        ensures did { (told : Option Files) (k : Kept) → IsKept self.old told k → OnOk result ((now : Kept) × IsKept self.new told now
+        ensures did { (known : Option Files) (k : Kept) → IsKept self.old known k → OnOk result ((now : Kept) × IsKept self.new known now
             × Includes (setting (S.meaning self.old.asker)) k bytes.items self.old.files out.old.items now self.new.files out.new.items) }
         ensures same { self.new.asker ≡ self.old.asker }
         ensures memory { (n : ℕ) → HasShelfCause n n result }

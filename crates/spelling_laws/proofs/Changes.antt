@@ -22,7 +22,7 @@ use Rattle.calculus.specs.declared.value.Value.TheVariants.{Int, Text}
 use Rattle.calculus.specs.Change.{IsLawful, rows_differ, permit_numbers, rule_numbers}
 use Rattle.calculus.specs.Database.{Db, Relation, relation_at, view_at, is_relation, is_there, permits_on, rules_on}
 use Rattle.calculus.specs.Catalogue.{catalogue_at}
-use Rattle.calculus.specs.IsDatabase.{IsDatabase, key_is_named, attrs_stand, are_stored, keys_stand, structure_stands, value_fits, row_fits, relation_rows_fit, view_info_stands, same_kind, attrs_are_targets, query_stands, vars_are_there, row_qual_stands, permit_attrs_stand, permit_stands, user_is_named}
+use Rattle.calculus.specs.IsDatabase.{IsDatabase, key_is_named, attrs_stand, are_stored, keys_stand, valid_structure, value_fits, row_fits, relation_rows_fit, valid_view_info, same_kind, attrs_are_targets, valid_query, vars_are_there, valid_row_qual, permit_attrs_stand, valid_permit, user_is_named}
 use Rattle.calculus.specs.Keys.{same_key, key_of}
 use Rattle.calculus.specs.Limits.{most_rows, most_permits, most_rules, greatest_number, most_listed_attributes, most_expanded_variables, most_variables, most_keys, most_levels, greatest_size, greatest_qual_size}
 use Rattle.calculus.specs.Lists.{is_any, has_number, differ_by}
@@ -116,7 +116,7 @@ stand_short attrs keys few h =
     let most = leb-true (length keys) most_keys two.1 in
     short_is is_place keys (omega (arith, most)) (places_are (length attrs) keys (omega (arith, few)) one.0)
 
-structure_short : (info : RelInfo) → length info.attrs ≤ 49 → structure_stands info ≡ true → are_short is_place info.keys ≡ true
+structure_short : (info : RelInfo) → length info.attrs ≤ 49 → valid_structure info ≡ true → are_short is_place info.keys ≡ true
 structure_short info few h = go (is_keyed info.spec) h
   where
     go : (b : Bool) → (elim b as (λ b. Bool) [ true ↦ is_any info.keys && keys_stand info.attrs info.keys | false ↦ is_structure info.spec && not (is_any info.keys) ]) ≡ true → are_short is_place info.keys ≡ true
@@ -187,7 +187,7 @@ module _ (db : Db) (d : IsDatabase db) where
 
   -- ---- qualifications over a row
 
-  over_row : (rel : RelKey) (q : QQual) → row_qual_stands db rel q ≡ true → qual_is_short q ≡ true
+  over_row : (rel : RelKey) (q : QQual) → valid_row_qual db rel q ≡ true → qual_is_short q ≡ true
   over_row rel q h = let few = few_kinds_at db d rel in plain_qual_short (kinds_at db rel ∷ []) (few_one (kinds_at db rel) (omega (arith, few))) q h
 
   -- what is stored of a qualification: few levels, and constants that are ones
@@ -283,7 +283,7 @@ module _ (db : Db) (d : IsDatabase db) where
       )
   change_spelled (changes.Create info rows) h =
       let one = and_parts (key_is_free db info.key) _ h in
-      let two = and_parts (structure_stands info) _ one.1 in
+      let two = and_parts (valid_structure info) _ one.1 in
       let three = and_parts (attrs_stand info.attrs) _ two.1 in
       let four = and_parts (are_stored info.attrs) _ three.1 in
       let five = and_parts (rows_differ rows) _ four.1 in
@@ -313,12 +313,12 @@ module _ (db : Db) (d : IsDatabase db) where
       )
   change_spelled (changes.View info q) h =
       let one = and_parts (key_is_free db info.key) _ h in
-      let two = and_parts (view_info_stands info) _ one.1 in
+      let two = and_parts (valid_view_info info) _ one.1 in
       let three = and_parts (attrs_stand info.attrs) _ two.1 in
       let four = and_parts (attrs_are_targets info.attrs (targets_of q)) _ three.1 in
       let five = and_parts (vars_are_there db q) _ four.1 in
       let six = and_parts (not (is_too_high (query_level db q))) _ five.1 in
-      let seven = and_parts (query_stands db q) _ six.1 in
+      let seven = and_parts (valid_query db q) _ six.1 in
       let vars = and_parts (nat_le (length (vars_of q)) most_expanded_variables) _ seven.1 in
       let some = and_parts (nat_le (variables q) most_variables) _ vars.1 in
       let expanded = and_parts (nat_le (expanded_variables db q) most_expanded_variables) _ some.1 in
@@ -333,14 +333,14 @@ module _ (db : Db) (d : IsDatabase db) where
         query_fits most_tree_levels q (leb-true (query_levels q) most_levels tree.0) tree.1 short.0,
       )
   change_spelled (changes.Permit rel permit) h =
-      let one = and_parts (permit_stands db rel permit) _ h in
+      let one = and_parts (valid_permit db rel permit) _ h in
       let two = and_parts (row_qual_is_storable permit.qual) _ one.1 in
       let three = and_parts (permit_lists_are_storable permit) _ two.1 in
       let four = and_parts (nat_le permit.number greatest_number) _ three.1 in
       let a = and_parts (is_relation db rel) _ one.0 in
       let b = and_parts (bytes_eq rel.owner db.dba) _ a.1 in
       let c = and_parts (user_is_named permit.user) _ b.1 in
-      let e = and_parts (permit_attrs_stand db rel permit.attrs) (row_qual_stands db rel permit.qual) c.1 in
+      let e = and_parts (permit_attrs_stand db rel permit.attrs) (valid_row_qual db rel permit.qual) c.1 in
       let lists = and_parts (nat_le (length permit.attrs) most_listed_attributes) (are_rights permit.ops) three.0 in
       let most = leb-true (length permit.attrs) most_listed_attributes lists.0 in
       let attrs = few_attrs_at db d rel in
@@ -353,7 +353,7 @@ module _ (db : Db) (d : IsDatabase db) where
       )
   change_spelled (changes.Rule rel rule) h =
       let one = and_parts (is_relation db rel) _ h in
-      let two = and_parts (row_qual_stands db rel rule.qual) _ one.1 in
+      let two = and_parts (valid_row_qual db rel rule.qual) _ one.1 in
       let three = and_parts (row_qual_is_storable rule.qual) _ two.1 in
       let four = and_parts (nat_le rule.number greatest_number) _ three.1 in
       let own = storable rule.qual three.0 in

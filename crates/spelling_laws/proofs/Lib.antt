@@ -6,7 +6,7 @@ pub mod Queries
 pub mod Trees
 pub mod Grammar
 pub mod Resolved
-pub mod PutIn
+pub mod Expanded
 pub mod PutSpelled
 pub mod Pigeons
 pub mod Stored

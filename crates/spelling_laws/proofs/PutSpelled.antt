@@ -36,20 +36,20 @@ use Rattle.calculus.specs.Term.{holds, no_aggs}
 use Rattle.calculus.specs.Tree as tree
 use Rattle.calculus.specs.TreeLevels.{query_levels}
 use Rattle.calculus.specs.Used.{used_in_query, used_in_aggregate}
-use Rattle.calculus.specs.Who.{Who, Asker, Free, Asks}
+use Rattle.calculus.specs.Who.{Who, Asker, Unrestricted, AsUser}
 use Rattle.calculus_laws.proofs.SameRows.{all_at}
-use Rattle.calculus_laws.proofs.Through.{each_told}
+use Rattle.calculus_laws.proofs.Through.{each_said}
 use Rattle.quel_meaning.specs.Meaning.{ruled_tree}
 use Rattle.quel_meaning.specs.SpelledTree.{made_key_is_spelled, update_is_spelled, tree_is_spelled}
 use Rattle.quel_meaning.proofs.Each.{Each, both_of, in_map, in_filter, each_to, each_passes, passed, and}
-use Rattle.view_text.specs.declared.text.Text.{Text}
+use Rattle.view_text.specs.declared.expansion.Expansion.{Expansion}
 use Rattle.view_text.specs.Halves.{Joining, paired, chained, joined_within, all_of, any_of}
-use Rattle.view_text.specs.Replaced.{Putting, replaced, replaced_in_qual, replaced_target, no_aggregate, further, moved, moved_qual, of_only}
-use Rattle.view_text.specs.Texts.{TextSource, term_at, attr_term, used_text, query_texts, texts_vars, put_from, conditions_from}
-use Rattle.view_text.specs.TextOf.{permit_condition, covering, cut, kept_text, past_text, has_value, put_terms, rows_conditions, settled, view_text, text_within, text_of}
-use Rattle.view_text.specs.PutIn.{put_query, put_range, put_source, range_cut, source_cut, put_row, put_made, put_over, put_in, read_cut, changed_text, update_text, update_texts, put_cut, put_in_update, put_in_asked, put_in_tree}
-use Rattle.tree_laws.proofs.Told.{texts_told}
-use Rattle.tree_laws.proofs.Counted.{all_texts}
+use Rattle.view_text.specs.Replaced.{Substitution, replaced, replaced_in_qual, replaced_target, no_aggregate, further, shifted, shifted_qual, of_only}
+use Rattle.view_text.specs.Expansions.{ExpansionSource, term_at, attr_term, used_expansion, query_expansions, expansions_vars, substituted_from, conditions_from}
+use Rattle.view_text.specs.ExpansionOf.{permit_condition, covering, restriction, kept_expansion, past_expansion, has_value, substituted_terms, rows_conditions, settled, view_text, expansion_within, expansion_of}
+use Rattle.view_text.specs.Expanded.{substituted_query, expanded_range, expanded_source, range_restriction, source_restriction, put_row, expanded_made, expanded_over, expanded, read_restriction, changed_expansion, update_expansion, update_expansions, append_restriction, expanded_update, expanded_asked, expanded_tree}
+use Rattle.tree_laws.proofs.Denoted.{expansions_said}
+use Rattle.tree_laws.proofs.Counted.{all_expansions}
 use Rattle.tree_laws.proofs.TextLaws.{view_in}
 
 -- constants that are ones
@@ -61,7 +61,7 @@ Qual q = qual_is_spelled q ≡ true
 
 -- ---- terms in place of attributes
 
-module _ (made : QTerm → QTerm) (put : Putting) (makes : (t : QTerm) → Term t → Term (made t)) (puts : (v a : ℕ) → Term (put v a)) where
+module _ (made : QTerm → QTerm) (put : Substitution) (makes : (t : QTerm) → Term t → Term (made t)) (puts : (v a : ℕ) → Term (put v a)) where
   term_replaced : (t : QTerm) → Term t → Term (replaced made put t)
   unfolding replaced
   term_replaced (terms.Int n) h = h
@@ -91,12 +91,12 @@ module _ (made : QTerm → QTerm) (put : Putting) (makes : (t : QTerm) → Term 
 none_made : (t : QTerm) → Term t → Term (no_aggregate t)
 none_made t h = refl
 
-moved_term : (n : ℕ) (t : QTerm) → Term t → Term (moved n t)
-moved_term n t h = term_replaced no_aggregate (further n) none_made (λ v a. refl) t h
+shifted_term : (n : ℕ) (t : QTerm) → Term t → Term (shifted n t)
+shifted_term n t h = term_replaced no_aggregate (further n) none_made (λ v a. refl) t h
 
-moved_each : (n : ℕ) (qs : List QQual) → Each Qual qs → Each Qual (map (moved_qual n) qs)
-moved_each n [] h = tt
-moved_each n (q ∷ qs) h = (qual_replaced no_aggregate (further n) none_made (λ v a. refl) q h.0, moved_each n qs h.1)
+shifted_each : (n : ℕ) (qs : List QQual) → Each Qual qs → Each Qual (map (shifted_qual n) qs)
+shifted_each n [] h = tt
+shifted_each n (q ∷ qs) h = (qual_replaced no_aggregate (further n) none_made (λ v a. refl) q h.0, shifted_each n qs h.1)
 
 -- ---- what is joined
 
@@ -127,19 +127,19 @@ any_one qs h = joined_one tree.either (tree.negated quals.True) (λ p q h k. and
 -- ---- texts
 
 -- the terms and the conditions of a text
-record IsOne (text : Text) : Type 0 where
+record IsOne (text : Expansion) : Type 0 where
   attr : (a : ℕ) → Term (attr_term text a)
   conditions : Each Qual text.conditions
 
-put_term : (texts : List Text) → Each IsOne texts → (n v a : ℕ) → Term (put_from n texts v a)
+put_term : (texts : List Expansion) → Each IsOne texts → (n v a : ℕ) → Term (substituted_from n texts v a)
 put_term [] h n v a = refl
-put_term (text ∷ texts) h n zero a = moved_term n (attr_term text a) (h.0.attr a)
+put_term (text ∷ texts) h n zero a = shifted_term n (attr_term text a) (h.0.attr a)
 put_term (text ∷ texts) h n (suc v) a = put_term texts h.1 (n + length text.vars) v a
 
-conditions_each : (texts : List Text) → Each IsOne texts → (n : ℕ) → Each Qual (conditions_from n texts)
+conditions_each : (texts : List Expansion) → Each IsOne texts → (n : ℕ) → Each Qual (conditions_from n texts)
 conditions_each [] h n = tt
 conditions_each (text ∷ texts) h n =
-    both_of Qual (map (moved_qual n) text.conditions) (conditions_from (n + length text.vars) texts) (moved_each n text.conditions h.0.conditions) (conditions_each texts h.1 (n + length text.vars))
+    both_of Qual (map (shifted_qual n) text.conditions) (conditions_from (n + length text.vars) texts) (shifted_each n text.conditions h.0.conditions) (conditions_each texts h.1 (n + length text.vars))
 
 settled_each : (vars : List RelKey) (conditions : List QQual) → Each Qual conditions → Each Qual (settled vars conditions)
 unfolding settled
@@ -169,20 +169,20 @@ targets_row (t ∷ ts) h = and (is_name t.name) (term_is_spelled t.term && targe
 query_parts : (q : Query) → query_is_spelled q ≡ true → Each Named' (targets_of q) × Qual (qual_of q)
 query_parts (Query' vars marks targets q) h = let two = and_parts (targets_are_spelled targets) (qual_is_spelled q) h in (row_targets targets two.0, two.1)
 
-targets_replaced : (made : QTerm → QTerm) (put : Putting) → ((t : QTerm) → Term t → Term (made t)) → ((v a : ℕ) → Term (put v a)) → (ts : List Target) → Each Named' ts → Each Named' (map (replaced_target made put) ts)
+targets_replaced : (made : QTerm → QTerm) (put : Substitution) → ((t : QTerm) → Term t → Term (made t)) → ((v a : ℕ) → Term (put v a)) → (ts : List Target) → Each Named' ts → Each Named' (map (replaced_target made put) ts)
 targets_replaced made put makes puts [] h = tt
 targets_replaced made put makes puts (t ∷ ts) h = ((h.0.0, term_replaced made put makes puts t.term h.0.1), targets_replaced made put makes puts ts h.1)
 
-query_one : (made : QTerm → QTerm) (texts : List Text) (q : Query) → ((t : QTerm) → Term t → Term (made t)) → Each IsOne texts → query_is_spelled q ≡ true → query_is_spelled (put_query made texts q) ≡ true
+query_one : (made : QTerm → QTerm) (texts : List Expansion) (q : Query) → ((t : QTerm) → Term t → Term (made t)) → Each IsOne texts → query_is_spelled q ≡ true → query_is_spelled (substituted_query made texts q) ≡ true
 query_one made texts q makes all h =
     let two = query_parts q h in
     let puts = put_term texts all 0 in
-    and (targets_are_spelled (tree.target_row (map (replaced_target made (put_from 0 texts)) (targets_of q)))) (qual_is_spelled (all_of (replaced_in_qual made (put_from 0 texts) (qual_of q) ∷ conditions_from 0 texts)))
-    (targets_row (map (replaced_target made (put_from 0 texts)) (targets_of q)) (targets_replaced made (put_from 0 texts) makes puts (targets_of q) two.0))
-    (all_one (replaced_in_qual made (put_from 0 texts) (qual_of q) ∷ conditions_from 0 texts) (qual_replaced made (put_from 0 texts) makes puts (qual_of q) two.1, conditions_each texts all 0))
+    and (targets_are_spelled (tree.target_row (map (replaced_target made (substituted_from 0 texts)) (targets_of q)))) (qual_is_spelled (all_of (replaced_in_qual made (substituted_from 0 texts) (qual_of q) ∷ conditions_from 0 texts)))
+    (targets_row (map (replaced_target made (substituted_from 0 texts)) (targets_of q)) (targets_replaced made (substituted_from 0 texts) makes puts (targets_of q) two.0))
+    (all_one (replaced_in_qual made (substituted_from 0 texts) (qual_of q) ∷ conditions_from 0 texts) (qual_replaced made (substituted_from 0 texts) makes puts (qual_of q) two.1, conditions_each texts all 0))
 
 -- the terms of targets, where they stand
-terms_of : (made : QTerm → QTerm) (put : Putting) → ((t : QTerm) → Term t → Term (made t)) → ((v a : ℕ) → Term (put v a)) → (ts : List Target) → Each Named' ts → Each Term (map (λ t. replaced made put t.term) ts)
+terms_of : (made : QTerm → QTerm) (put : Substitution) → ((t : QTerm) → Term t → Term (made t)) → ((v a : ℕ) → Term (put v a)) → (ts : List Target) → Each Named' ts → Each Term (map (λ t. replaced made put t.term) ts)
 terms_of made put makes puts [] h = tt
 terms_of made put makes puts (t ∷ ts) h = (term_replaced made put makes puts t.term h.0.1, terms_of made put makes puts ts h.1)
 
@@ -213,88 +213,88 @@ module _ (db : Db) (d : IsDatabase db) (who : Who) where
   conditions_of [] h = tt
   conditions_of (p ∷ ps) h = (qual_replaced no_aggregate of_only none_made only_put p.qual h.0, conditions_of ps h.1)
 
-  cut_by : (asker : Asker) (right : Right) (attrs : List ℕ) (key : RelKey) (b : Bool) → Each Qual (elim b as (λ b. List QQual) [ true ↦ [] | false ↦ any_of (map permit_condition (covering db asker right attrs key)) ∷ [] ])
-  cut_by asker right attrs key true = tt
-  cut_by asker right attrs key false =
+  restriction_by : (asker : Asker) (right : Right) (attrs : List ℕ) (key : RelKey) (b : Bool) → Each Qual (elim b as (λ b. List QQual) [ true ↦ [] | false ↦ any_of (map permit_condition (covering db asker right attrs key)) ∷ [] ])
+  restriction_by asker right attrs key true = tt
+  restriction_by asker right attrs key false =
       (any_one (map permit_condition (covering db asker right attrs key)) (conditions_of (covering db asker right attrs key) (in_filter (λ (p : Permit). Qual p.qual) (λ p. covers p asker right attrs) (permits_on db key) (permits_each key))), tt)
 
-  cut_each : (w : Who) (right : Right) (attrs : List ℕ) (key : RelKey) → Each Qual (cut db w right attrs key)
-  cut_each Free right attrs key = tt
-  cut_each (Asks asker) right attrs key = cut_by asker right attrs key (needs_none db asker right key)
+  restriction_each : (w : Who) (right : Right) (attrs : List ℕ) (key : RelKey) → Each Qual (restriction db w right attrs key)
+  restriction_each Unrestricted right attrs key = tt
+  restriction_each (AsUser asker) right attrs key = restriction_by asker right attrs key (needs_none db asker right key)
 
-  kept_one : (conditions : List QQual) (key : RelKey) → Each Qual conditions → IsOne (kept_text conditions key)
+  kept_one : (conditions : List QQual) (key : RelKey) → Each Qual conditions → IsOne (kept_expansion conditions key)
   kept_one conditions key h = record { attr = λ a. refl; conditions = h }
 
-  used_one : (texts : TextSource) → ((key : RelKey) (attrs : List ℕ) → IsOne (texts key attrs)) → (key : RelKey) (attrs : List ℕ) → IsOne (used_text texts key attrs)
+  used_one : (texts : ExpansionSource) → ((key : RelKey) (attrs : List ℕ) → IsOne (texts key attrs)) → (key : RelKey) (attrs : List ℕ) → IsOne (used_expansion texts key attrs)
   used_one texts h key [] = record { attr = λ a. refl; conditions = tt }
   used_one texts h key (a ∷ attrs) = h key (a ∷ attrs)
 
-  each_text : (texts : TextSource) → ((key : RelKey) (attrs : List ℕ) → IsOne (texts key attrs)) → (q : Query) → Each IsOne (query_texts texts q)
-  each_text texts h q = all_texts IsOne texts (used_one texts h) q 0 (vars_of q)
+  each_text : (texts : ExpansionSource) → ((key : RelKey) (attrs : List ℕ) → IsOne (texts key attrs)) → (q : Query) → Each IsOne (query_expansions texts q)
+  each_text texts h q = all_expansions IsOne texts (used_one texts h) q 0 (vars_of q)
 
   stored_view : (key : RelKey) (view : View) → range_at db key ≡ Some (Viewed view) → query_is_spelled view.query ≡ true
   stored_view key view e =
       (and_parts (nat_le (query_levels view.query) most_levels) (query_is_spelled view.query) (all_at (λ (v : View). query_is_storable v.query) db.views view (view_in db d key view e) d.storable_views)).1
 
-  view_one : (texts : TextSource) → ((key : RelKey) (attrs : List ℕ) → IsOne (texts key attrs)) → (key : RelKey) (view : View) → range_at db key ≡ Some (Viewed view) → IsOne (view_text texts view)
+  view_one : (texts : ExpansionSource) → ((key : RelKey) (attrs : List ℕ) → IsOne (texts key attrs)) → (key : RelKey) (view : View) → range_at db key ≡ Some (Viewed view) → IsOne (view_text texts view)
   view_one texts h key view e =
       let two = query_parts view.query (stored_view key view e) in
       let all = each_text texts h view.query in
-      let puts = put_term (query_texts texts view.query) all 0 in
-      let put = terms_of no_aggregate (put_from 0 (query_texts texts view.query)) none_made puts (targets_of view.query) two.0 in
+      let puts = put_term (query_expansions texts view.query) all 0 in
+      let put = terms_of no_aggregate (substituted_from 0 (query_expansions texts view.query)) none_made puts (targets_of view.query) two.0 in
       record {
-        attr = term_there (put_terms (query_texts texts view.query) view.query) put;
-        conditions = settled_each (texts_vars (query_texts texts view.query)) (rows_conditions (query_texts texts view.query) view.query) (
-          qual_replaced no_aggregate (put_from 0 (query_texts texts view.query)) none_made puts (qual_of view.query) two.1,
-          both_of Qual (map has_value (put_terms (query_texts texts view.query) view.query)) (conditions_from 0 (query_texts texts view.query))
-              (values_each (put_terms (query_texts texts view.query) view.query) put) (conditions_each (query_texts texts view.query) all 0),
+        attr = term_there (substituted_terms (query_expansions texts view.query) view.query) put;
+        conditions = settled_each (expansions_vars (query_expansions texts view.query)) (rows_conditions (query_expansions texts view.query) view.query) (
+          qual_replaced no_aggregate (substituted_from 0 (query_expansions texts view.query)) none_made puts (qual_of view.query) two.1,
+          both_of Qual (map has_value (substituted_terms (query_expansions texts view.query) view.query)) (conditions_from 0 (query_expansions texts view.query))
+              (values_each (substituted_terms (query_expansions texts view.query) view.query) put) (conditions_each (query_expansions texts view.query) all 0),
         );
       }
 
-  past_one : IsOne past_text
+  past_one : IsOne past_expansion
   past_one = record { attr = λ a. refl; conditions = (refl, tt) }
 
-  within_one : (n : ℕ) (key : RelKey) (attrs : List ℕ) → IsOne (text_within n db who key attrs)
+  within_one : (n : ℕ) (key : RelKey) (attrs : List ℕ) → IsOne (expansion_within n db who key attrs)
   within_one n key =
-      each_told (texts_told db who) db (λ n key text. (attrs : List ℕ) → IsOne (text attrs))
+      each_said (expansions_said db who) db (λ n key text. (attrs : List ℕ) → IsOne (text attrs))
       (record {
-        nothing = λ n f key e attrs. kept_one (cut db who Retrieve attrs key) key (cut_each who Retrieve attrs key);
-        kept = λ n f key relation e attrs. kept_one (cut db who Retrieve attrs key) key (cut_each who Retrieve attrs key);
+        nothing = λ n f key e attrs. kept_one (restriction db who Retrieve attrs key) key (restriction_each who Retrieve attrs key);
+        kept = λ n f key relation e attrs. kept_one (restriction db who Retrieve attrs key) key (restriction_each who Retrieve attrs key);
         view_past = λ key view e attrs. past_one;
         view_above = λ n f below key view e attrs. view_one f below key view e;
       })
       n key
 
-  text_one : (key : RelKey) (attrs : List ℕ) → IsOne (text_of db who key attrs)
-  unfolding text_of
+  text_one : (key : RelKey) (attrs : List ℕ) → IsOne (expansion_of db who key attrs)
+  unfolding expansion_of
   text_one key attrs = within_one 16 key attrs
 
   -- ---- aggregates
 
-  source_one : (s : AggSource) → source_is_spelled s ≡ true → source_is_spelled (put_source db who s) ≡ true
+  source_one : (s : AggSource) → source_is_spelled s ≡ true → source_is_spelled (expanded_source db who s) ≡ true
   source_one (Named key) h = by (range_at db key) refl
     where
-      by : (r : Option Range) → range_at db key ≡ r → source_is_spelled (put_range db who key r) ≡ true
+      by : (r : Option Range) → range_at db key ≡ r → source_is_spelled (expanded_range db who key r) ≡ true
       by None e = refl
       by (Some (Kept relation)) e = refl
-      by (Some (Viewed view)) e = query_one no_aggregate (query_texts (text_within 15 db who) view.query) view.query none_made (each_text (text_within 15 db who) (within_one 15) view.query) (stored_view key view e)
-  source_one (tree.rows_of_query q) h = query_one no_aggregate (query_texts (text_of db who) q) q none_made (each_text (text_of db who) text_one q) h
+      by (Some (Viewed view)) e = query_one no_aggregate (query_expansions (expansion_within 15 db who) view.query) view.query none_made (each_text (expansion_within 15 db who) (within_one 15) view.query) (stored_view key view e)
+  source_one (tree.rows_of_query q) h = query_one no_aggregate (query_expansions (expansion_of db who) q) q none_made (each_text (expansion_of db who) text_one q) h
 
-  source_cut_each : (attrs : List ℕ) (s : AggSource) → Each Qual (source_cut db who attrs s)
-  source_cut_each attrs (Named key) = by (range_at db key)
+  source_restriction_each : (attrs : List ℕ) (s : AggSource) → Each Qual (source_restriction db who attrs s)
+  source_restriction_each attrs (Named key) = by (range_at db key)
     where
-      by : (r : Option Range) → Each Qual (range_cut db who attrs key r)
-      by None = cut_each who Retrieve attrs key
-      by (Some (Kept relation)) = cut_each who Retrieve attrs key
+      by : (r : Option Range) → Each Qual (range_restriction db who attrs key r)
+      by None = restriction_each who Retrieve attrs key
+      by (Some (Kept relation)) = restriction_each who Retrieve attrs key
       by (Some (Viewed view)) = tt
-  source_cut_each attrs (tree.rows_of_query q) = tt
+  source_restriction_each attrs (tree.rows_of_query q) = tt
 
   row_again : {n : _} (row : Row_of-QTerm n) → terms_are_spelled row ≡ true → terms_are_spelled (tree.term_row (items-the_row-QTerm _ row)) ≡ true
   row_again end_of-QTerm h = refl
   row_again (more_of-QTerm t rest) h =
       let two = and_parts (term_is_spelled t) (terms_are_spelled rest) h in and (term_is_spelled t) (terms_are_spelled (tree.term_row (items-the_row-QTerm _ rest))) two.0 (row_again rest two.1)
 
-  module _ (put : Putting) (puts : (v a : ℕ) → Term (put v a)) where
+  module _ (put : Substitution) (puts : (v a : ℕ) → Term (put v a)) where
     links_replaced : {n : _} (row : Row_of-QTerm n) → terms_are_spelled row ≡ true → terms_are_spelled (tree.term_row (map (replaced no_aggregate put) (items-the_row-QTerm _ row))) ≡ true
     links_replaced end_of-QTerm h = refl
     links_replaced (more_of-QTerm t rest) h =
@@ -310,13 +310,13 @@ module _ (db : Db) (d : IsDatabase db) (who : Who) where
         let three = and_parts (terms_are_spelled by) _ two.1 in
         let four = and_parts (terms_are_spelled link) (qual_is_spelled q) three.1 in
         let attrs = used_in_aggregate (record { slot = slot; op = o; source = source; arg = arg; by = items-the_row-QTerm _ by; link = items-the_row-QTerm _ link; qual = q }) in
-        and (source_is_spelled (put_source db who source)) _ (source_one source one.0)
+        and (source_is_spelled (expanded_source db who source)) _ (source_one source one.0)
         (and (term_is_spelled arg) _ two.0
         (and (terms_are_spelled (tree.term_row (items-the_row-QTerm _ by))) _ (row_again by three.0)
-        (and (terms_are_spelled (tree.term_row (map (replaced no_aggregate put) (items-the_row-QTerm _ link)))) (qual_is_spelled (all_of (q ∷ source_cut db who attrs source))) (links_replaced link four.0)
-        (all_one (q ∷ source_cut db who attrs source) (four.1, source_cut_each attrs source)))))
+        (and (terms_are_spelled (tree.term_row (map (replaced no_aggregate put) (items-the_row-QTerm _ link)))) (qual_is_spelled (all_of (q ∷ source_restriction db who attrs source))) (links_replaced link four.0)
+        (all_one (q ∷ source_restriction db who attrs source) (four.1, source_restriction_each attrs source)))))
 
-    made_one : (t : QTerm) → Term t → Term (put_made db who put t)
+    made_one : (t : QTerm) → Term t → Term (expanded_made db who put t)
     made_one (terms.Int n) h = refl
     made_one (terms.Chars bytes) h = refl
     made_one (terms.Attr var attr) h = refl
@@ -326,71 +326,71 @@ module _ (db : Db) (d : IsDatabase db) (who : Who) where
     made_one (tree.concat t u) h = refl
     made_one (Agg' mark row) h = row_one row h
 
-  over_one : (texts : List Text) (q : Query) → Each IsOne texts → query_is_spelled q ≡ true → query_is_spelled (put_over db who texts q) ≡ true
-  over_one texts q all h = query_one (put_made db who (put_from 0 texts)) texts q (made_one (put_from 0 texts) (put_term texts all 0)) all h
+  over_one : (texts : List Expansion) (q : Query) → Each IsOne texts → query_is_spelled q ≡ true → query_is_spelled (expanded_over db who texts q) ≡ true
+  over_one texts q all h = query_one (expanded_made db who (substituted_from 0 texts)) texts q (made_one (substituted_from 0 texts) (put_term texts all 0)) all h
 
   -- ---- updates
 
-  read_each : (attrs : List ℕ) (key : RelKey) → Each Qual (read_cut db who attrs key)
+  read_each : (attrs : List ℕ) (key : RelKey) → Each Qual (read_restriction db who attrs key)
   read_each [] key = tt
-  read_each (a ∷ attrs) key = cut_each who Retrieve (a ∷ attrs) key
+  read_each (a ∷ attrs) key = restriction_each who Retrieve (a ∷ attrs) key
 
-  changed_one : (right : Right) (places read : List ℕ) (key : RelKey) → IsOne (changed_text db who right places read key)
+  changed_one : (right : Right) (places read : List ℕ) (key : RelKey) → IsOne (changed_expansion db who right places read key)
   changed_one right places read key =
-      kept_one (cut db who right places key ++ read_cut db who read key) key (both_of Qual (cut db who right places key) (read_cut db who read key) (cut_each who right places key) (read_each read key))
+      kept_one (restriction db who right places key ++ read_restriction db who read key) key (both_of Qual (restriction db who right places key) (read_restriction db who read key) (restriction_each who right places key) (read_each read key))
 
-  update_one : (u : Update) (v : ℕ) (key : RelKey) → IsOne (update_text db who u v key)
+  update_one : (u : Update) (v : ℕ) (key : RelKey) → IsOne (update_expansion db who u v key)
   update_one u v key = by (changed u)
     where
       at : (right : Right) (b : Bool) → IsOne (elim b [
-        | true ↦ changed_text db who right u.places (used_in_query v u.query) key
-        | false ↦ used_text (text_of db who) key (used_in_query v u.query)
+        | true ↦ changed_expansion db who right u.places (used_in_query v u.query) key
+        | false ↦ used_expansion (expansion_of db who) key (used_in_query v u.query)
       ])
       at right true = changed_one right u.places (used_in_query v u.query) key
-      at right false = used_one (text_of db who) text_one key (used_in_query v u.query)
+      at right false = used_one (expansion_of db who) text_one key (used_in_query v u.query)
 
       by : (c : Option (ℕ × Right)) → IsOne (elim c [
-        | None ↦ used_text (text_of db who) key (used_in_query v u.query)
+        | None ↦ used_expansion (expansion_of db who) key (used_in_query v u.query)
         | Some c ↦ elim (c.0 == v) [
-          | true ↦ changed_text db who c.1 u.places (used_in_query v u.query) key
-          | false ↦ used_text (text_of db who) key (used_in_query v u.query)
+          | true ↦ changed_expansion db who c.1 u.places (used_in_query v u.query) key
+          | false ↦ used_expansion (expansion_of db who) key (used_in_query v u.query)
         ]
       ])
-      by None = used_one (text_of db who) text_one key (used_in_query v u.query)
+      by None = used_one (expansion_of db who) text_one key (used_in_query v u.query)
       by (Some c) = at c.1 (c.0 == v)
 
-  each_update : (u : Update) (k : ℕ) (keys : List RelKey) → Each IsOne (map (λ p. update_text db who u p.0 p.1) (enumerate_from k keys))
+  each_update : (u : Update) (k : ℕ) (keys : List RelKey) → Each IsOne (map (λ p. update_expansion db who u p.0 p.1) (enumerate_from k keys))
   each_update u k [] = tt
   each_update u k (key ∷ keys) = (update_one u k key, each_update u (k + 1) keys)
 
-  new_cut_one : (u : Update) (o : UpdateOp) → Qual u.new_cut → Qual (put_cut db who u o)
-  new_cut_one u op.Append h = all_one (u.new_cut ∷ cut db who Append u.places u.rel) (h, cut_each who Append u.places u.rel)
+  new_cut_one : (u : Update) (o : UpdateOp) → Qual u.new_cut → Qual (append_restriction db who u o)
+  new_cut_one u op.Append h = all_one (u.new_cut ∷ restriction db who Append u.places u.rel) (h, restriction_each who Append u.places u.rel)
   new_cut_one u op.Replace h = h
   new_cut_one u op.Delete h = h
   new_cut_one u op.Into h = h
 
-  update_spelled : (u : Update) → update_is_spelled u ≡ true → update_is_spelled (put_in_update db who u) ≡ true
-  unfolding update_is_spelled put_in_update
+  update_spelled : (u : Update) → update_is_spelled u ≡ true → update_is_spelled (expanded_update db who u) ≡ true
+  unfolding update_is_spelled expanded_update
   update_spelled u h =
       let one = and_parts (made_key_is_spelled u) _ h in
       let two = and_parts (query_is_spelled u.query) _ one.1 in
       let three = and_parts (qual_is_spelled u.new_cut) (list_all qual_is_spelled u.checks) two.1 in
       and (made_key_is_spelled u) _ one.0
-      (and (query_is_spelled (put_over db who (update_texts db who u) u.query)) _ (over_one (update_texts db who u) u.query (each_update u 0 (vars_of u.query)) two.0)
-      (and (qual_is_spelled (put_cut db who u u.op)) (list_all qual_is_spelled u.checks) (new_cut_one u u.op three.0) three.1))
+      (and (query_is_spelled (expanded_over db who (update_expansions db who u) u.query)) _ (over_one (update_expansions db who u) u.query (each_update u 0 (vars_of u.query)) two.0)
+      (and (qual_is_spelled (append_restriction db who u u.op)) (list_all qual_is_spelled u.checks) (new_cut_one u u.op three.0) three.1))
 
   -- ---- trees
 
-  asked_spelled : (asked : List Asked) → list_all (λ (a : Asked). query_is_spelled a.query) asked ≡ true → list_all (λ (a : Asked). query_is_spelled a.query) (map (put_in_asked db who) asked) ≡ true
-  unfolding put_in
+  asked_spelled : (asked : List Asked) → list_all (λ (a : Asked). query_is_spelled a.query) asked ≡ true → list_all (λ (a : Asked). query_is_spelled a.query) (map (expanded_asked db who) asked) ≡ true
+  unfolding expanded
   asked_spelled [] h = refl
   asked_spelled (a ∷ asked) h =
       let two = and_parts (query_is_spelled a.query) (list_all (λ (a : Asked). query_is_spelled a.query) asked) h in
-      and (query_is_spelled (put_in db who a.query)) (list_all (λ (a : Asked). query_is_spelled a.query) (map (put_in_asked db who) asked))
-      (over_one (query_texts (text_of db who) a.query) a.query (each_text (text_of db who) text_one a.query) two.0) (asked_spelled asked two.1)
+      and (query_is_spelled (expanded db who a.query)) (list_all (λ (a : Asked). query_is_spelled a.query) (map (expanded_asked db who) asked))
+      (over_one (query_expansions (expansion_of db who) a.query) a.query (each_text (expansion_of db who) text_one a.query) two.0) (asked_spelled asked two.1)
 
-  put_spelled : (tree : Checked) → tree_is_spelled tree ≡ true → tree_is_spelled (put_in_tree db who tree) ≡ true
-  unfolding tree_is_spelled put_in_tree
+  put_spelled : (tree : Checked) → tree_is_spelled tree ≡ true → tree_is_spelled (expanded_tree db who tree) ≡ true
+  unfolding tree_is_spelled expanded_tree
   put_spelled (checked.Answer asked) h = asked_spelled asked h
   put_spelled (checked.Update u) h = update_spelled u h
   put_spelled (checked.Utility work) h = h
@@ -429,5 +429,5 @@ module _ (db : Db) (d : IsDatabase db) (who : Who) where
   ruled_spelled (checked.Utility work) h = h
 
   -- with what is put in, and the rules of the relation that it changes
-  pub all_spelled : (tree : Checked) → tree_is_spelled tree ≡ true → tree_is_spelled (ruled_tree db (put_in_tree db who tree)) ≡ true
-  all_spelled tree h = ruled_spelled (put_in_tree db who tree) (put_spelled tree h)
+  pub all_spelled : (tree : Checked) → tree_is_spelled tree ≡ true → tree_is_spelled (ruled_tree db (expanded_tree db who tree)) ≡ true
+  all_spelled tree h = ruled_spelled (expanded_tree db who tree) (put_spelled tree h)

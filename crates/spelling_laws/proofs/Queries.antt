@@ -15,7 +15,7 @@ use Rattle.calculus.specs.declared.query.RelKey.{RelKey}
 use Rattle.calculus.specs.declared.query.Target.{Target}
 use Rattle.calculus.specs.Aggregate.{source_kinds}
 use Rattle.calculus.specs.Database.{Db}
-use Rattle.calculus.specs.IsDatabase.{IsDatabase, is_kind, has_kind, var_kinds, query_stands}
+use Rattle.calculus.specs.IsDatabase.{IsDatabase, is_kind, has_kind, var_kinds, valid_query}
 use Rattle.calculus.specs.Kinds.{kind_of, kinds_fit}
 use Rattle.calculus.specs.Limits.{most_attributes, most_expanded_variables}
 use Rattle.calculus.specs.Name.{is_name}
@@ -171,7 +171,7 @@ module _ (db : Db) (d : IsDatabase db) where
         let own : IsKind this.0 = plain_lawful db (var_kinds db q) (kinds_vars db d (vars_of q)) t.term spelled.0 this.0 this.1 in
         ((kind_same this.0 t.kind this.2 own, plain_short (var_kinds db q) vars_few t.term (ap is_some this.1)), each_target ts two.1 spelled.1)
 
-    pub plain_query_short : Each IsNamed (vars_of q) → length (targets_of q) ≤ 65535 → query_stands db q ≡ true → query_is_spelled q ≡ true → (query_is_short q ≡ true) × Each IsShort (targets_of q)
+    pub plain_query_short : Each IsNamed (vars_of q) → length (targets_of q) ≤ 65535 → valid_query db q ≡ true → query_is_spelled q ≡ true → (query_is_short q ≡ true) × Each IsShort (targets_of q)
     plain_query_short named short stands spelled =
         let two = and_parts (list_all (λ t. has_kind (kind_of t.term (var_kinds db q)) t.kind) (targets_of q)) (kinds_fit (qual_of q) (var_kinds db q)) stands in
         let each = each_target (targets_of q) two.0 (spelled_parts q spelled).0 in
@@ -196,7 +196,7 @@ module _ (db : Db) (d : IsDatabase db) where
     source_good (tree.rows_of_query q) fit spelled =
         let one = and_parts (list_all may.source (vars_of q)) _ fit in
         let two = and_parts (nat_le (length (vars_of q)) 1) _ one.1 in
-        let three = and_parts (has_few_targets q) (query_stands db q) two.1 in
+        let three = and_parts (has_few_targets q) (valid_query db q) two.1 in
         let vars = leb-true (length (vars_of q)) 1 two.0 in
         let targets = leb-true (length (targets_of q)) most_attributes three.0 in
         let named = each_to (λ key. may.source key ≡ true) IsNamed (λ key h. ranged_named db d key (ranged.source key h)) (vars_of q) (each_passes may.source (vars_of q) one.0) in

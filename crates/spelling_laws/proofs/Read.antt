@@ -22,10 +22,10 @@ use Rattle.reading_laws.specs.Levels.{tree_levels}
 use Rattle.reading_laws.proofs.Resolved.{resolved_shallow}
 use Rattle.reading_laws.proofs.ShallowStatements.{read_shallow}
 use Rattle.tree_laws.proofs.Trees.{ruled_tree_low}
-use Rattle.view_text.specs.PutIn.{put_in_tree}
+use Rattle.view_text.specs.Expanded.{expanded_tree}
 use Rattle.spelling_laws.proofs.Bounds.{few_tokens}
 use Rattle.spelling_laws.proofs.Grammar.{FewBy, FewParts, statement_by, statement_parts}
-use Rattle.spelling_laws.proofs.PutIn.{put_short}
+use Rattle.spelling_laws.proofs.Expanded.{put_short}
 use Rattle.spelling_laws.proofs.PutSpelled.{all_spelled}
 use Rattle.spelling_laws.proofs.Requests.{tree_fits}
 use Rattle.spelling_laws.proofs.Resolved.{resolved_few, resolved_spelled, resolved_short}
@@ -52,13 +52,13 @@ module _ (db : Db) (d : IsDatabase db) (user : List ℕ) (named : is_name user �
       let few = few_levels in
       tree_fits most_tree_levels tree (omega (arith, few)) (resolved_spelled db d user named ranges s written groups parts tree e) (resolved_short db d user named ranges s written groups parts tree e)
 
-  pub put_in_spelled : (who : Who) → (checked most_tree_levels).Fits (ruled_tree db (put_in_tree db who tree))
+  pub put_in_spelled : (who : Who) → (checked most_tree_levels).Fits (ruled_tree db (expanded_tree db who tree))
   put_in_spelled who =
       let fit = resolved_fits db user ranges s tree d named written e in
       let spelled = all_spelled db d who tree (resolved_spelled db d user named ranges s written groups parts tree e) in
       let few = few_levels in
       let more = ruled_tree_low db d who user tree fit in
-      tree_fits most_tree_levels (ruled_tree db (put_in_tree db who tree)) (omega (arith, few, more)) spelled
+      tree_fits most_tree_levels (ruled_tree db (expanded_tree db who tree)) (omega (arith, few, more)) spelled
       (put_short db d who user tree fit (resolved_few db d user named ranges s written groups parts tree e) spelled)
 
 pub grammatical_spelled : (reading : Reading) → IsGrammatical reading → (db : Db) → IsDatabase db → (user : List ℕ) → is_name user ≡ true → (ranges : Ranges) (text : List ℕ) (from : ℕ) (s : Statement) (end : ℕ)
@@ -66,5 +66,5 @@ pub grammatical_spelled : (reading : Reading) → IsGrammatical reading → (db 
 grammatical_spelled reading lawful db d user named ranges text from s end is = read_spelled db d user named ranges text from s end (subst (IsNext text from) is (lawful text from))
 
 pub grammatical_put_in : (reading : Reading) → IsGrammatical reading → (db : Db) → IsDatabase db → (user : List ℕ) → is_name user ≡ true → (ranges : Ranges) (text : List ℕ) (from : ℕ) (s : Statement) (end : ℕ)
-    → reading text from ≡ Read s end → (tree : Checked) → resolved db user ranges s ≡ Ok tree → (who : Who) → (checked most_tree_levels).Fits (ruled_tree db (put_in_tree db who tree))
+    → reading text from ≡ Read s end → (tree : Checked) → resolved db user ranges s ≡ Ok tree → (who : Who) → (checked most_tree_levels).Fits (ruled_tree db (expanded_tree db who tree))
 grammatical_put_in reading lawful db d user named ranges text from s end is = put_in_spelled db d user named ranges text from s end (subst (IsNext text from) is (lawful text from))

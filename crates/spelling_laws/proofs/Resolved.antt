@@ -21,12 +21,12 @@ use Rattle.calculus.specs.IsDatabase.{IsDatabase}
 use Rattle.calculus.specs.Limits.{most_variables}
 use Rattle.calculus.specs.Name.{is_name}
 use Rattle.calculus.specs.QueryParts.{targets_of, term_aggregates, qual_aggregates, query_aggregates}
-use Rattle.calculus.specs.Replacement.{first_cause}
+use Rattle.calculus.specs.Replacement.{first_refusal}
 use Rattle.calculus.specs.Stored.{attrs_in}
 use Rattle.calculus.specs.Tree as tree
 use Rattle.calculus.specs.Written.{neg, abs, operation, concat, both, either, negated}
 use Rattle.calculus.proofs.Forms.{items_of_targets}
-use Rattle.quel_meaning.specs.Causes.{causes}
+use Rattle.quel_meaning.specs.Causes.{refusals}
 use Rattle.quel_meaning.specs.Fit.{suits, fits}
 use Rattle.quel_meaning.specs.FitQueries.{kept_or_viewed}
 use Rattle.quel_meaning.specs.IsWritten.{is_written}
@@ -173,20 +173,20 @@ help_few : (s : Scope) (info : Option RelInfo) → FewAsked (help_on s info)
 unfolding term_aggregates qual_aggregates
 help_few s info = record { query = few_none (help_on s info).query refl; sort = omega arith }
 
-tree_few : (s : Scope) (stmt : Statement) → Each (FewBy 500) (text_aggregates stmt) → FewParts 500 stmt → first_cause (causes s stmt) ≡ None → FewTree 0 (tree_of s stmt)
-unfolding tree_of causes append_of replace_of delete_of into_of
+tree_few : (s : Scope) (stmt : Statement) → Each (FewBy 500) (text_aggregates stmt) → FewParts 500 stmt → first_refusal (refusals s stmt) ≡ None → FewTree 0 (tree_of s stmt)
+unfolding tree_of refusals append_of replace_of delete_of into_of
 tree_few s (statement.Range var rel) h parts none = (omega arith, tt)
 tree_few s (statement.Retrieve None items qual sort) h parts none =
     let q = query_of s (statement.Retrieve None items qual sort) in
-    let all = none_of (causes s (statement.Retrieve None items qual sort)) none in
+    let all = none_of (refusals s (statement.Retrieve None items qual sort)) none in
     let same = length-map sort (sort_key (targets_of q)) in
     (omega arith, (record { query = all_few s (statement.Retrieve None items qual sort) h all.1.0; sort = omega (arith, same, parts) }, tt))
 tree_few s (statement.Retrieve (Some name) items qual sort) h parts none =
-    let all = none_of (causes s (statement.Retrieve (Some name) items qual sort)) none in
+    let all = none_of (refusals s (statement.Retrieve (Some name) items qual sort)) none in
     (all_few s (statement.Retrieve (Some name) items qual sort) h (not_left (has_too_many s.db (query_of s (statement.Retrieve (Some name) items qual sort))) (is_full s.db) all.1.0), omega arith)
-tree_few s (statement.Append rel items qual) h parts none = let all = none_of (causes s (statement.Append rel items qual)) none in (all_few s (statement.Append rel items qual) h all.1.0, omega arith)
-tree_few s (statement.Replace var items qual) h parts none = let all = none_of (causes s (statement.Replace var items qual)) none in (all_few s (statement.Replace var items qual) h all.1.0, omega arith)
-tree_few s (statement.Delete var qual) h parts none = let all = none_of (causes s (statement.Delete var qual)) none in (all_few s (statement.Delete var qual) h all.1.0, omega arith)
+tree_few s (statement.Append rel items qual) h parts none = let all = none_of (refusals s (statement.Append rel items qual)) none in (all_few s (statement.Append rel items qual) h all.1.0, omega arith)
+tree_few s (statement.Replace var items qual) h parts none = let all = none_of (refusals s (statement.Replace var items qual)) none in (all_few s (statement.Replace var items qual) h all.1.0, omega arith)
+tree_few s (statement.Delete var qual) h parts none = let all = none_of (refusals s (statement.Delete var qual)) none in (all_few s (statement.Delete var qual) h all.1.0, omega arith)
 tree_few s (statement.Create rel attrs) h parts none = tt
 tree_few s (statement.Destroy rels) h parts none = let few = few_filtered (entry_named s) rels in omega (arith, few, parts)
 tree_few s (statement.DropPermits rel numbers) h parts none = let few = parts.0 in short_is is_number numbers (omega (arith, few)) parts.1

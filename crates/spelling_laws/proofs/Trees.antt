@@ -20,7 +20,7 @@ use Rattle.calculus.specs.declared.request.Utility.{Utility}
 use Rattle.calculus.specs.declared.request.Utility.TheVariants as utility
 use Rattle.calculus.specs.declared.schema.Attr.{Attr as Attribute}
 use Rattle.calculus.specs.Database.{Db, is_relation, is_there}
-use Rattle.calculus.specs.IsDatabase.{IsDatabase, attrs_stand, are_stored, is_kind, keys_stand, var_kinds, query_stands, vars_are_there, row_qual_stands, permit_attrs_stand}
+use Rattle.calculus.specs.IsDatabase.{IsDatabase, attrs_stand, are_stored, is_kind, keys_stand, var_kinds, valid_query, vars_are_there, valid_row_qual, permit_attrs_stand}
 use Rattle.calculus.specs.Keys.{same_key}
 use Rattle.calculus.specs.Kinds.{comparable, kinds_fit}
 use Rattle.calculus.specs.Limits.{most_attributes, most_expanded_variables, most_listed_attributes, most_keys}
@@ -103,7 +103,7 @@ module _ (db : Db) (d : IsDatabase db) where
   row_qual_short : (key : RelKey) (q : QQual) → row_qual_fits db key q ≡ true → IsNamed key × (qual_is_short q ≡ true)
   row_qual_short key q h =
       let one = and_parts (can_be_ranged_over db key) _ h in
-      let two = and_parts (row_qual_stands db key q) (row_qual_is_small q) one.1 in
+      let two = and_parts (valid_row_qual db key q) (row_qual_is_small q) one.1 in
       let few = few_kinds_at db d key in
       (ranged_named db d key one.0, plain_qual_short (kinds_at db key ∷ []) (few_one (kinds_at db key) (omega (arith, few))) q two.0)
 
@@ -144,7 +144,7 @@ module _ (db : Db) (d : IsDatabase db) where
   unfolding view_fits
   view_short q h spelled =
       let one = and_parts (vars_are_there db q) _ h in
-      let two = and_parts (query_stands db q) _ one.1 in
+      let two = and_parts (valid_query db q) _ one.1 in
       let three = and_parts (attrs_stand (map target_attr (targets_of q))) _ two.1 in
       let four = and_parts (lists_few_vars q) _ three.1 in
       let vars = leb-true (length (vars_of q)) most_expanded_variables four.0 in

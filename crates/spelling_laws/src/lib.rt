@@ -22,7 +22,7 @@ ghost use Rattle.quel_tree.specs.Requests.{checked};
 ghost use Rattle.reading_laws.specs.Levels.{tree_levels};
 ghost use Rattle.spelling_laws.specs.Short.{tree_is_short};
 ghost use Rattle.std.specs.Prelude.{◌≡◌, ◌≤◌, ℕ, true, List, Ok};
-ghost use Rattle.view_text.specs.PutIn.{put_in_tree};
+ghost use Rattle.view_text.specs.Expanded.{expanded_tree};
 
 /// A tree has a spelling where it has at most 3,000 levels, its constants and the names of what it makes are
 /// ones, and it is short.
@@ -44,10 +44,10 @@ pub fn what_is_read_has_a_spelling()
 /// changes.
 pub fn what_is_put_in_has_a_spelling()
     ensures allowed { (db : Db) → IsDatabase db → (user : List ℕ) → is_name user ≡ true → (ranges : Ranges) (text : List ℕ) (from : ℕ) (s : Statement) (end : ℕ) → IsNext text from (Read s end)
-        → (tree : Checked) → resolved db user ranges s ≡ Ok tree → (who : Who) → (checked most_tree_levels).Fits (ruled_tree db (put_in_tree db who tree)) }
+        → (tree : Checked) → resolved db user ranges s ≡ Ok tree → (who : Who) → (checked most_tree_levels).Fits (ruled_tree db (expanded_tree db who tree)) }
     ensures grammatical { (reading : Reading) → IsGrammatical reading
         → (db : Db) → IsDatabase db → (user : List ℕ) → is_name user ≡ true → (ranges : Ranges) (text : List ℕ) (from : ℕ) (s : Statement) (end : ℕ) → reading text from ≡ Read s end
-        → (tree : Checked) → resolved db user ranges s ≡ Ok tree → (who : Who) → (checked most_tree_levels).Fits (ruled_tree db (put_in_tree db who tree)) }
+        → (tree : Checked) → resolved db user ranges s ≡ Ok tree → (who : Who) → (checked most_tree_levels).Fits (ruled_tree db (expanded_tree db who tree)) }
 {}
 
 /// A lawful change of a database has a spelling: its lists have no more items than their counts can say, its

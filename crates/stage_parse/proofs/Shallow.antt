@@ -5,14 +5,14 @@ use Rattle.calculus.specs.declared.statement.Statement.{Statement}
 use Rattle.calculus.specs.Database.{Db}
 use Rattle.calculus.specs.IsDatabase.{IsDatabase}
 use Rattle.calculus.specs.Name.{is_name}
-use Rattle.calculus.specs.Who.{asks}
+use Rattle.calculus.specs.Who.{as_user}
 use Rattle.quel_meaning.specs.IsWritten.{is_written}
 use Rattle.quel_meaning.specs.Meaning.{checked_permitted, ruled_tree}
 use Rattle.quel_meaning.specs.Ranges.{Ranges}
 use Rattle.quel_resolve.specs.Answers.{Resolves}
 use Rattle.utility_trees.specs.Answers.{Says}
 use Rattle.utility_trees.specs.declared.fault.CheckFault.{CheckFault}
-use Rattle.view_text.specs.PutIn.{put_in_tree}
+use Rattle.view_text.specs.Expanded.{expanded_tree}
 use Rattle.reading_laws.specs.Levels.{most_tree_levels, tree_levels}
 use Rattle.reading_laws.specs.Shallow.{statement_levels}
 use Rattle.reading_laws.proofs.Resolved.{resolved_shallow}
@@ -26,11 +26,11 @@ in_all few tree made h g f = omega (arith, h, g, f)
 -- by what is told of what is cut and ruled
 pub stays_shallow : (db : Db) (user : List ℕ) (ranges : Ranges) (s : Statement) (tree : Checked) → IsDatabase db → is_name user ≡ true → is_written s ≡ true
     → Resolves db user ranges s (Ok tree) → statement_levels s ≤ 500 → (result : Result Checked CheckFault)
-    → Says (λ made. (made ≡ ruled_tree db (put_in_tree db (asks user) tree)) × (checked_permitted db (asks user) tree ≡ true))
-    (λ number. (number ≡ 23) × (checked_permitted db (asks user) tree ≡ false)) result
+    → Says (λ made. (made ≡ ruled_tree db (expanded_tree db (as_user user) tree)) × (checked_permitted db (as_user user) tree ≡ true))
+    (λ number. (number ≡ 23) × (checked_permitted db (as_user user) tree ≡ false)) result
     → IfOk result (λ made. tree_levels made ≤ most_tree_levels)
 stays_shallow db user ranges s tree d named written h few (Ok made) k =
     let fit = fit_resolved db user ranges s tree d named written h in
     subst (λ t. tree_levels t ≤ most_tree_levels) (sym k.0)
-    (in_all (statement_levels s) (tree_levels tree) (tree_levels (ruled_tree db (put_in_tree db (asks user) tree))) few (resolved_shallow db user ranges s tree h) (ruled_tree_low db d (asks user) user tree fit))
+    (in_all (statement_levels s) (tree_levels tree) (tree_levels (ruled_tree db (expanded_tree db (as_user user) tree))) few (resolved_shallow db user ranges s tree h) (ruled_tree_low db d (as_user user) user tree fit))
 stays_shallow db user ranges s tree d named written h few (Err cause) k = tt

@@ -8,16 +8,16 @@ ghost use Rattle.reading_laws.specs.Levels.{most_tree_levels, tree_levels};
 ghost use Rattle.reading_laws.specs.Shallow.{statement_levels};
 ghost use Rattle.stage_parse.specs.Checks.{Checks};
 
-use crate::cutting::cut_and_ruled;
-use am_traits::Base;
+use crate::cutting::restricted_and_ruled;
+use base_trait::Base;
 use calculus::{Checked, Name, Statement};
 use quel_check::RangeTable;
 use quel_resolve::{CheckFault, resolve};
 use std::alloc::Global;
 
 /// What the user's statement asks for, as a tree over base relations and catalogues alone that is fit for
-/// the database: its views are put in, it is cut down to what the user may see and change, and the rules
-/// of the relation that it changes are among its checks. For nobody in particular it means what the
+/// the database: its views are expanded, it is cut down to what the user may see and change, and the rules
+/// of the relation that it changes are among its checks. For whoever is unrestricted it means what the
 /// statement means for the user. `No` has the number of what refuses the statement: the first name that
 /// isn't what it has to be, else the first cause, else 23 where something isn't permitted. Of a statement
 /// of at most 500 levels, as each has that is read of a text, the tree has at most 3,000: one of more
@@ -30,7 +30,7 @@ pub fn checked<B: Base>(
     base: &mut B,
 ) -> Result<Checked, CheckFault>
     requires { is_written s.now ≡ true }
-    ensures told { (db : Db) → B.database base.old ≡ Some db → Checks db user.now ranges.now s.now result }
+    ensures known { (db : Db) → B.database base.old ≡ Some db → Checks db user.now ranges.now s.now result }
     ensures shallow { (db : Db) → B.database base.old ≡ Some db → statement_levels s.now ≤ 500
         → IfOk result (λ tree. tree_levels tree ≤ most_tree_levels) }
     ensures kept { B.database base.new ≡ B.database base.old }
@@ -40,7 +40,7 @@ pub fn checked<B: Base>(
 {
     let _ = user.bytes();
     match resolve(alloc, s, user, ranges, base) {
-        Ok(tree) => cut_and_ruled(alloc, base, user, tree),
+        Ok(tree) => restricted_and_ruled(alloc, base, user, tree),
         Err(fault) => Err(fault),
     }
 }

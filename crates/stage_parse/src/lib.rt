@@ -1,5 +1,5 @@
 //! The parser's part of a statement's way: from the statement to a tree that is fit for the database and
-//! means for nobody in particular what the statement means for its user.
+//! means unrestricted what the statement means for its user.
 #![tactic(auto)]
 
 mod checking;

@@ -1,13 +1,13 @@
 //! Trees with the rules of the relations that they change.
 
 ghost use Rattle.std.specs.Prelude.{◌≡◌, Some, IfOk};
-ghost use Rattle.am_traits.specs.Causes.{HasCause};
+ghost use Rattle.base_trait.specs.Causes.{HasCause};
 ghost use Rattle.calculus.specs.Database.{Db};
 ghost use Rattle.calculus.specs.declared.request.Checked.TheVariants as checked;
 ghost use Rattle.quel_meaning.specs.Meaning.{ruled_tree};
 
 use crate::taking::update_in;
-use am_traits::{Base, BaseFault};
+use base_trait::{Base, BaseFault};
 use calculus::{Checked, Update};
 use cut_rules::add_rules;
 use std::alloc::Global;
@@ -15,7 +15,7 @@ use std::alloc::Global;
 /// The tree of an update, with the rules of the relation that it changes.
 #[tactic(auto, unfolding(quel_meaning::specs::Meaning::ruled_tree))]
 fn ruled_update<B: Base>(alloc: Global, base: &mut B, u: Update) -> Result<Checked, BaseFault>
-    ensures told { (db : Db) → B.schema base.old ≡ Some db → IfOk result (λ made. made ≡ ruled_tree db (checked.Update u)) }
+    ensures known { (db : Db) → B.schema base.old ≡ Some db → IfOk result (λ made. made ≡ ruled_tree db (checked.Update u)) }
     ensures kept { B.database base.new ≡ B.database base.old }
     ensures stays { (s : Db) → B.schema base.old ≡ Some s → B.schema base.new ≡ Some s }
     ensures asked { (b : B) → B.asked b base.old → B.asked b base.new }
@@ -33,7 +33,7 @@ pub(crate) fn ruled<B: Base>(
     base: &mut B,
     mut tree: Checked,
 ) -> Result<Checked, BaseFault>
-    ensures told { (db : Db) → B.schema base.old ≡ Some db → IfOk result (λ made. made ≡ ruled_tree db tree) }
+    ensures known { (db : Db) → B.schema base.old ≡ Some db → IfOk result (λ made. made ≡ ruled_tree db tree) }
     ensures kept { B.database base.new ≡ B.database base.old }
     ensures stays { (s : Db) → B.schema base.old ≡ Some s → B.schema base.new ≡ Some s }
     ensures asked { (b : B) → B.asked b base.old → B.asked b base.new }

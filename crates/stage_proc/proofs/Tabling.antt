@@ -18,8 +18,8 @@ use Rattle.calculus.specs.Table.{tabled}
 use Rattle.calculus.specs.Targets.{rows_given, some_lacks, target_values}
 use Rattle.calculus.specs.Term.{Env, holds}
 use Rattle.calculus.specs.VariableRows.{rows_of}
-use Rattle.calculus.specs.Who.{Free}
-use Rattle.am_traits.specs.Causes.{MayCome}
+use Rattle.calculus.specs.Who.{Unrestricted}
+use Rattle.base_trait.specs.Causes.{MayCome}
 use Rattle.quel_meaning.specs.Tables.{column_of, sorted, table_of, some_query_lacks}
 use Rattle.ovqp.specs.declared.fault.QueryFault.{QueryFault}
 use Rattle.ovqp.specs.declared.fault.QueryFault.TheVariants as query
@@ -28,8 +28,8 @@ use Rattle.stage_proc.specs.TableCauses.{MayFail, IsCaused, LacksIn, OneLacksIn,
 
 -- ---- one table
 
-pub made_table : (db : Db) (asked : Asked) (columns : List Column) (rows : List Row) → columns ≡ map column_of (targets_of asked.query) → rows ≡ sorted asked.sort (answer db Free asked.query)
-    → ◌≡◌ {A = Table} (record { columns = columns; rows = rows }) (table_of db Free asked)
+pub made_table : (db : Db) (asked : Asked) (columns : List Column) (rows : List Row) → columns ≡ map column_of (targets_of asked.query) → rows ≡ sorted asked.sort (answer db Unrestricted asked.query)
+    → ◌≡◌ {A = Table} (record { columns = columns; rows = rows }) (table_of db Unrestricted asked)
 unfolding table_of
 made_table db asked columns rows a b = λ i. record { columns = a i; rows = b i }
 
@@ -67,20 +67,20 @@ any-at p (y ∷ ys) (suc i) x h is passes = go (p y) (any-at p ys i x (omega (ar
     go true e = refl
     go false e = e
 
-pub none_yet : (db : Db) → some_query_lacks db Free [] ≡ false
+pub none_yet : (db : Db) → some_query_lacks db Unrestricted [] ≡ false
 unfolding some_query_lacks
 none_yet db = refl
 
-pub next_none : (db : Db) (asked : List Asked) (i : ℕ) (one : Asked) → i < length asked → one ≡ get_or asked i one → some_query_lacks db Free (take i asked) ≡ false → lacks db Free one.query ≡ false
-    → some_query_lacks db Free (take (i + 1) asked) ≡ false
+pub next_none : (db : Db) (asked : List Asked) (i : ℕ) (one : Asked) → i < length asked → one ≡ get_or asked i one → some_query_lacks db Unrestricted (take i asked) ≡ false → lacks db Unrestricted one.query ≡ false
+    → some_query_lacks db Unrestricted (take (i + 1) asked) ≡ false
 unfolding some_query_lacks
 next_none db asked i one h is before none =
-    ap (list_any (λ a. lacks db Free a.query)) (take_more asked i one h ∙ ap (λ a. take i asked ++ a ∷ []) (sym is))
-    ∙ any-push (λ a. lacks db Free a.query) (take i asked) one before none
+    ap (list_any (λ a. lacks db Unrestricted a.query)) (take_more asked i one h ∙ ap (λ a. take i asked ++ a ∷ []) (sym is))
+    ∙ any-push (λ a. lacks db Unrestricted a.query) (take i asked) one before none
 
-one_lacks : (db : Db) (asked : List Asked) (i : ℕ) (one : Asked) → i < length asked → one ≡ get_or asked i one → lacks db Free one.query ≡ true → some_query_lacks db Free asked ≡ true
+one_lacks : (db : Db) (asked : List Asked) (i : ℕ) (one : Asked) → i < length asked → one ≡ get_or asked i one → lacks db Unrestricted one.query ≡ true → some_query_lacks db Unrestricted asked ≡ true
 unfolding some_query_lacks
-one_lacks db asked i one h is lacking = any-at (λ a. lacks db Free a.query) asked i one h is lacking
+one_lacks db asked i one h is lacking = any-at (λ a. lacks db Unrestricted a.query) asked i one h is lacking
 
 -- what holds of all holds of one
 pub one_of : {X : Type 0} (P : X → Type 0) (xs : List X) (i : ℕ) (x : X) → i < length xs → x ≡ get_or xs i x → All P xs → P x
@@ -99,19 +99,19 @@ on_ok f (Err e) h = tt
 -- ---- tables that stand for the aggregates
 
 pub answer_by_tables : (db : Db) (q : Query) (tables : List AggTable) (set : List Row)
-    → ((es : List Env) → rows_given (tabled tables) q es ≡ rows_given (aggregates db Free) q es) → set ≡ rows_given (tabled tables) q (assigned (rows_of db Free) q) → set ≡ answer db Free q
+    → ((es : List Env) → rows_given (tabled tables) q es ≡ rows_given (aggregates db Unrestricted) q es) → set ≡ rows_given (tabled tables) q (assigned (rows_of db Unrestricted) q) → set ≡ answer db Unrestricted q
 unfolding answer
-answer_by_tables db q tables set rows is = is ∙ rows (assigned (rows_of db Free) q)
+answer_by_tables db q tables set rows is = is ∙ rows (assigned (rows_of db Unrestricted) q)
 
 pub lacks_by_tables : (db : Db) (q : Query) (tables : List AggTable) (b : Bool)
-    → ((es : List Env) → some_lacks (tabled tables) q es ≡ some_lacks (aggregates db Free) q es) → some_lacks (tabled tables) q (assigned (rows_of db Free) q) ≡ b → lacks db Free q ≡ b
+    → ((es : List Env) → some_lacks (tabled tables) q es ≡ some_lacks (aggregates db Unrestricted) q es) → some_lacks (tabled tables) q (assigned (rows_of db Unrestricted) q) ≡ b → lacks db Unrestricted q ≡ b
 unfolding lacks
-lacks_by_tables db q tables b same is = sym (same (assigned (rows_of db Free) q)) ∙ is
+lacks_by_tables db q tables b same is = sym (same (assigned (rows_of db Unrestricted) q)) ∙ is
 
 lacks_in : (db : Db) (q : Query) (tables : List AggTable) (at : Env)
-    → ((e : Env) → target_values (tabled tables) (targets_of q) e ≡ target_values (aggregates db Free) (targets_of q) e)
-    → ((e : Env) → holds (tabled tables) (qual_of q) e ≡ holds (aggregates db Free) (qual_of q) e)
-    → ((es : List Env) → some_lacks (tabled tables) q es ≡ some_lacks (aggregates db Free) q es)
+    → ((e : Env) → target_values (tabled tables) (targets_of q) e ≡ target_values (aggregates db Unrestricted) (targets_of q) e)
+    → ((e : Env) → holds (tabled tables) (qual_of q) e ≡ holds (aggregates db Unrestricted) (qual_of q) e)
+    → ((es : List Env) → some_lacks (tabled tables) q es ≡ some_lacks (aggregates db Unrestricted) q es)
     → asking.LacksIn (tabled tables) db q at → LacksIn db q at
 lacks_in db q tables at values truth same h = record {
   somewhere = lacks_by_tables db q tables true same h.somewhere;
@@ -125,37 +125,37 @@ lacks_in db q tables at values truth same h = record {
 -- ---- a fault
 
 -- a fault of the answer by tables that stand for the aggregates
-may_fail : (q : Query) (tables : List AggTable) (told : Option Db) (before mid now : ℕ) (fault : QueryFault)
-    → ((db : Db) → told ≡ Some db → (e : Env) → target_values (tabled tables) (targets_of q) e ≡ target_values (aggregates db Free) (targets_of q) e)
-    → ((db : Db) → told ≡ Some db → (e : Env) → holds (tabled tables) (qual_of q) e ≡ holds (aggregates db Free) (qual_of q) e)
-    → ((db : Db) → told ≡ Some db → (es : List Env) → some_lacks (tabled tables) q es ≡ some_lacks (aggregates db Free) q es)
-    → mid ≡ before → asking.MayFail (tabled tables) q told mid now fault → MayFail (λ db at. LacksIn db q at) told before now fault
-may_fail q tables told before mid now (query.NoValue at) values truth same stayed may = (may.0 ∙ stayed, λ db e. lacks_in db q tables at (values db e) (truth db e) (same db e) (may.1 db e))
-may_fail q tables told before mid now (query.Base fault) values truth same stayed may = subst (λ n. MayCome told n now fault) stayed may
-may_fail q tables told before mid now query.OutOfMemory values truth same stayed may = may ∙ stayed
+may_fail : (q : Query) (tables : List AggTable) (known : Option Db) (before mid now : ℕ) (fault : QueryFault)
+    → ((db : Db) → known ≡ Some db → (e : Env) → target_values (tabled tables) (targets_of q) e ≡ target_values (aggregates db Unrestricted) (targets_of q) e)
+    → ((db : Db) → known ≡ Some db → (e : Env) → holds (tabled tables) (qual_of q) e ≡ holds (aggregates db Unrestricted) (qual_of q) e)
+    → ((db : Db) → known ≡ Some db → (es : List Env) → some_lacks (tabled tables) q es ≡ some_lacks (aggregates db Unrestricted) q es)
+    → mid ≡ before → asking.MayFail (tabled tables) q known mid now fault → MayFail (λ db at. LacksIn db q at) known before now fault
+may_fail q tables known before mid now (query.NoValue at) values truth same stayed may = (may.0 ∙ stayed, λ db e. lacks_in db q tables at (values db e) (truth db e) (same db e) (may.1 db e))
+may_fail q tables known before mid now (query.Base fault) values truth same stayed may = subst (λ n. MayCome known n now fault) stayed may
+may_fail q tables known before mid now query.OutOfMemory values truth same stayed may = may ∙ stayed
 
-is_caused : {T : Type 0} (q : Query) (tables : List AggTable) (told : Option Db) (before mid now : ℕ) (result : Result T QueryFault)
-    → ((db : Db) → told ≡ Some db → (e : Env) → target_values (tabled tables) (targets_of q) e ≡ target_values (aggregates db Free) (targets_of q) e)
-    → ((db : Db) → told ≡ Some db → (e : Env) → holds (tabled tables) (qual_of q) e ≡ holds (aggregates db Free) (qual_of q) e)
-    → ((db : Db) → told ≡ Some db → (es : List Env) → some_lacks (tabled tables) q es ≡ some_lacks (aggregates db Free) q es)
-    → mid ≡ before → asking.IsCaused {T = T} (tabled tables) q told mid now result → IsCaused {T = T} (λ db at. LacksIn db q at) told before now result
-is_caused q tables told before mid now (Ok x) values truth same stayed may = may ∙ stayed
-is_caused q tables told before mid now (Err fault) values truth same stayed may = may_fail q tables told before mid now fault values truth same stayed may
+is_caused : {T : Type 0} (q : Query) (tables : List AggTable) (known : Option Db) (before mid now : ℕ) (result : Result T QueryFault)
+    → ((db : Db) → known ≡ Some db → (e : Env) → target_values (tabled tables) (targets_of q) e ≡ target_values (aggregates db Unrestricted) (targets_of q) e)
+    → ((db : Db) → known ≡ Some db → (e : Env) → holds (tabled tables) (qual_of q) e ≡ holds (aggregates db Unrestricted) (qual_of q) e)
+    → ((db : Db) → known ≡ Some db → (es : List Env) → some_lacks (tabled tables) q es ≡ some_lacks (aggregates db Unrestricted) q es)
+    → mid ≡ before → asking.IsCaused {T = T} (tabled tables) q known mid now result → IsCaused {T = T} (λ db at. LacksIn db q at) known before now result
+is_caused q tables known before mid now (Ok x) values truth same stayed may = may ∙ stayed
+is_caused q tables known before mid now (Err fault) values truth same stayed may = may_fail q tables known before mid now fault values truth same stayed may
 
-pub settled_cause : {T : Type 0} (q : Query) (tables : List AggTable) (told : Option Db) (before mid now : ℕ) (result : Result T QueryFault)
-    → ((db : Db) → told ≡ Some db → (e : Env) → target_values (tabled tables) (targets_of q) e ≡ target_values (aggregates db Free) (targets_of q) e)
-    → ((db : Db) → told ≡ Some db → (e : Env) → holds (tabled tables) (qual_of q) e ≡ holds (aggregates db Free) (qual_of q) e)
-    → ((db : Db) → told ≡ Some db → (es : List Env) → some_lacks (tabled tables) q es ≡ some_lacks (aggregates db Free) q es)
-    → mid ≡ before → asking.HasCause {T = T} (tabled tables) q told mid now result → HasOneCause {T = T} q told before now result
-settled_cause q tables told before mid now result values truth same stayed cause = record {
+pub settled_cause : {T : Type 0} (q : Query) (tables : List AggTable) (known : Option Db) (before mid now : ℕ) (result : Result T QueryFault)
+    → ((db : Db) → known ≡ Some db → (e : Env) → target_values (tabled tables) (targets_of q) e ≡ target_values (aggregates db Unrestricted) (targets_of q) e)
+    → ((db : Db) → known ≡ Some db → (e : Env) → holds (tabled tables) (qual_of q) e ≡ holds (aggregates db Unrestricted) (qual_of q) e)
+    → ((db : Db) → known ≡ Some db → (es : List Env) → some_lacks (tabled tables) q es ≡ some_lacks (aggregates db Unrestricted) q es)
+    → mid ≡ before → asking.HasCause {T = T} (tabled tables) q known mid now result → HasOneCause {T = T} q known before now result
+settled_cause q tables known before mid now result values truth same stayed cause = record {
   later = omega (arith, stayed, cause.later);
-  caused = is_caused q tables told before mid now result values truth same stayed cause.caused;
+  caused = is_caused q tables known before mid now result values truth same stayed cause.caused;
 }
 
 -- a fault of one of several
-one_may_fail : (asked : List Asked) (i : ℕ) (one : Asked) (told : Option Db) (before mid now : ℕ) (fault : QueryFault) → i < length asked → one ≡ get_or asked i one → mid ≡ before
-    → MayFail (λ db at. LacksIn db one.query at) told mid now fault → MayFail (λ db at. OneLacksIn db asked at) told before now fault
-one_may_fail asked i one told before mid now (query.NoValue at) h is stayed may = (
+one_may_fail : (asked : List Asked) (i : ℕ) (one : Asked) (known : Option Db) (before mid now : ℕ) (fault : QueryFault) → i < length asked → one ≡ get_or asked i one → mid ≡ before
+    → MayFail (λ db at. LacksIn db one.query at) known mid now fault → MayFail (λ db at. OneLacksIn db asked at) known before now fault
+one_may_fail asked i one known before mid now (query.NoValue at) h is stayed may = (
   may.0 ∙ stayed,
   λ db e. record {
     one = one;
@@ -164,10 +164,10 @@ one_may_fail asked i one told before mid now (query.NoValue at) h is stayed may 
     somewhere = one_lacks db asked i one h is (may.1 db e).somewhere;
   },
 )
-one_may_fail asked i one told before mid now (query.Base fault) h is stayed may = subst (λ n. MayCome told n now fault) stayed may
-one_may_fail asked i one told before mid now query.OutOfMemory h is stayed may = may ∙ stayed
+one_may_fail asked i one known before mid now (query.Base fault) h is stayed may = subst (λ n. MayCome known n now fault) stayed may
+one_may_fail asked i one known before mid now query.OutOfMemory h is stayed may = may ∙ stayed
 
-pub one_fails : {T : Type 0} (asked : List Asked) (i : ℕ) (one : Asked) (told : Option Db) (before mid now : ℕ) (fault : QueryFault) (result : Result T QueryFault) → i < length asked → one ≡ get_or asked i one
-    → result ≡ Err fault → mid ≡ before → mid ≤ now → MayFail (λ db at. LacksIn db one.query at) told mid now fault → HasCause {T = T} asked told before now result
-one_fails {T = T} asked i one told before mid now fault result h is made stayed later may =
-    subst (HasCause {T = T} asked told before now) (sym made) (record { later = omega (arith, stayed, later); caused = one_may_fail asked i one told before mid now fault h is stayed may })
+pub one_fails : {T : Type 0} (asked : List Asked) (i : ℕ) (one : Asked) (known : Option Db) (before mid now : ℕ) (fault : QueryFault) (result : Result T QueryFault) → i < length asked → one ≡ get_or asked i one
+    → result ≡ Err fault → mid ≡ before → mid ≤ now → MayFail (λ db at. LacksIn db one.query at) known mid now fault → HasCause {T = T} asked known before now result
+one_fails {T = T} asked i one known before mid now fault result h is made stayed later may =
+    subst (HasCause {T = T} asked known before now) (sym made) (record { later = omega (arith, stayed, later); caused = one_may_fail asked i one known before mid now fault h is stayed may })

@@ -6,13 +6,13 @@ use Rattle.calculus.specs.declared.request.Update.{Update}
 use Rattle.calculus.specs.Pairs.{is_append}
 use Rattle.calculus.specs.Rows.{Row}
 use Rattle.calculus.specs.Term.{Env, holds, no_aggs}
-use Rattle.stage_proc.specs.Given.{new_row_stands, pair_stands}
+use Rattle.stage_proc.specs.Given.{new_row_allowed, pair_allowed}
 
 pub each_stands : (u : Update) → u.checks ≡ [] → ((e : Env) → (if is_append u.op then holds no_aggs u.new_cut e else true) ≡ true)
-    → (p : Pair) → pair_stands u p ≡ true
+    → (p : Pair) → pair_allowed u p ≡ true
 each_stands u none cut p = go p.new
   where
-    go : (new : Option Row) → new_row_stands u new ≡ true
+    go : (new : Option Row) → new_row_allowed u new ≡ true
     go None = refl
     go (Some row) = ap (λ checks. list_all (λ q. holds no_aggs q (row ∷ [])) checks && (if is_append u.op then holds no_aggs u.new_cut (row ∷ []) else true)) none ∙ cut (row ∷ [])
 

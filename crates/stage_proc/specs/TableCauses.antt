@@ -10,8 +10,8 @@ use Rattle.calculus.specs.Database.{Db}
 use Rattle.calculus.specs.QueryParts.{vars_of}
 use Rattle.calculus.specs.Term.{Env}
 use Rattle.calculus.specs.VariableRows.{rows_of}
-use Rattle.calculus.specs.Who.{Free}
-use Rattle.am_traits.specs.Causes.{MayCome}
+use Rattle.calculus.specs.Who.{Unrestricted}
+use Rattle.base_trait.specs.Causes.{MayCome}
 use Rattle.ovqp.specs.ProductCauses.{Lacks}
 use Rattle.quel_meaning.specs.FitQueries.{is_kept, kept_alone, slots_count_up, sources_fit}
 use Rattle.quel_meaning.specs.Tables.{some_query_lacks}
@@ -26,33 +26,33 @@ pub record CanBeAnswered (db : Db) (q : Query) : Type 0 where
 
 -- the query lacks a value over this database, and this is one of the assignments in which a target does
 pub record LacksIn (db : Db) (q : Query) (at : Env) : Type 0 where
-  pub somewhere : IsTrue (lacks db Free q)
-  pub there : Lacks (aggregates db Free) q (assigned (rows_of db Free) q) at
+  pub somewhere : IsTrue (lacks db Unrestricted q)
+  pub there : Lacks (aggregates db Unrestricted) q (assigned (rows_of db Unrestricted) q) at
 
 -- the same of one of these queries
 pub record OneLacksIn (db : Db) (asked : List Asked) (at : Env) : Type 0 where
   pub one : Asked
   pub among : Contains asked one
   pub there : LacksIn db one.query at
-  pub somewhere : IsTrue (some_query_lacks db Free asked)
+  pub somewhere : IsTrue (some_query_lacks db Unrestricted asked)
 
--- this fault may come: a target lacks a value, as is said, where a database is told; a fault of the database where it may come; want of memory; where it isn't the database's, its count stayed
+-- this fault may come: a target lacks a value, as is said, where a database is known; a fault of the database where it may come; want of memory; where it isn't the database's, its count stayed
 abbrev pub MayFail : (Db → Env → Type 0) → Option Db → ℕ → ℕ → QueryFault → Type 0
-MayFail lacking told before now (NoValue at) = (now ≡ before) × ((db : Db) → told ≡ Some db → lacking db at)
-MayFail lacking told before now (Base fault) = MayCome told before now fault
-MayFail lacking told before now OutOfMemory = now ≡ before
+MayFail lacking known before now (NoValue at) = (now ≡ before) × ((db : Db) → known ≡ Some db → lacking db at)
+MayFail lacking known before now (Base fault) = MayCome known before now fault
+MayFail lacking known before now OutOfMemory = now ≡ before
 
 -- an answer where the count stayed, or a fault that may come
 abbrev pub IsCaused : {T : Type 0} → (Db → Env → Type 0) → Option Db → ℕ → ℕ → Result T QueryFault → Type 0
-IsCaused lacking told before now (Ok x) = now ≡ before
-IsCaused lacking told before now (Err fault) = MayFail lacking told before now fault
+IsCaused lacking known before now (Ok x) = now ≡ before
+IsCaused lacking known before now (Err fault) = MayFail lacking known before now fault
 
 -- the count of faults never falls, an answer comes only where it stayed, and a fault only where it may: of one query
-pub record HasOneCause {T : Type 0} (q : Query) (told : Option Db) (before now : ℕ) (result : Result T QueryFault) : Type 0 where
+pub record HasOneCause {T : Type 0} (q : Query) (known : Option Db) (before now : ℕ) (result : Result T QueryFault) : Type 0 where
   pub later : before ≤ now
-  pub caused : IsCaused (λ db at. LacksIn db q at) told before now result
+  pub caused : IsCaused (λ db at. LacksIn db q at) known before now result
 
 -- of several
-pub record HasCause {T : Type 0} (asked : List Asked) (told : Option Db) (before now : ℕ) (result : Result T QueryFault) : Type 0 where
+pub record HasCause {T : Type 0} (asked : List Asked) (known : Option Db) (before now : ℕ) (result : Result T QueryFault) : Type 0 where
   pub later : before ≤ now
-  pub caused : IsCaused (λ db at. OneLacksIn db asked at) told before now result
+  pub caused : IsCaused (λ db at. OneLacksIn db asked at) known before now result

@@ -5,10 +5,10 @@ ghost use Rattle.calculus.specs.Database.{Db};
 ghost use Rattle.calculus.specs.Replacement.{wanted_kinds};
 ghost use Rattle.calculus.specs.Stored.{kinds_at};
 ghost use Rattle.stage_proc.specs.Given.{wanted};
-ghost use Rattle.am_traits.specs.Causes.{HasCause};
+ghost use Rattle.base_trait.specs.Causes.{HasCause};
 
 use crate::kinds::{NewKinds, wanted};
-use am_traits::{Base, BaseFault};
+use base_trait::{Base, BaseFault};
 use calculus::{Kind, OutOfMemory, Update};
 use ovqp::kinds_at;
 use std::alloc::Global;

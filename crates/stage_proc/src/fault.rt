@@ -5,7 +5,7 @@ ghost use Rattle.ovqp.specs.declared.fault.QueryFault.TheVariants.{Base as OfBas
 ghost use Rattle.ovqp.specs.Given.{given_fault};
 ghost use Rattle.stage_proc.specs.declared.fault.PairFault.TheVariants.{Query as OfQuery, OutOfMemory as NoMemory};
 
-use am_traits::BaseFault;
+use base_trait::BaseFault;
 use calculus::{OutOfMemory, Row};
 use decompose::QueryFault;
 use ovqp::ProductFault;

@@ -4,7 +4,7 @@ ghost use Rattle.std.specs.Prelude.{◌≡◌, map, slice_get, Some, IfOk};
 ghost use Rattle.calculus.specs.Replacement.{made_attr};
 ghost use Rattle.stage_proc.specs.Given.{wanted};
 
-use calculus::{Domain, Kind, OutOfMemory, Target, Update, UpdateOp};
+use calculus::{Kind, OutOfMemory, Target, Update, UpdateOp, made_kind};
 use std::alloc::Global;
 
 /// The kinds of the values of new rows.
@@ -44,16 +44,6 @@ fn placed(alloc: Global, kinds: &[Kind], places: &[u8]) -> Result<Vec<Option<Kin
         wanted.push(kind_at(kinds, *place))?;
     }
     Ok(wanted)
-}
-
-/// The kind of the attribute that is made of a target: numbers of 64 bits become ones of 32.
-fn made_kind(target: &Target) -> Kind
-    ensures { result ≡ (made_attr target.now).kind }
-{
-    match target.kind {
-        Kind::Wide => Kind::Of(Domain::I4),
-        Kind::Of(domain) => Kind::Of(domain),
-    }
 }
 
 /// The kinds of the attributes that are made of targets.

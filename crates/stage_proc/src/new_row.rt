@@ -1,53 +1,11 @@
 //! New rows.
 
-ghost use Rattle.std.specs.Prelude.{◌≡◌, [], map, slice_set, IfOk, OnOk};
+ghost use Rattle.std.specs.Prelude.{◌≡◌, map, IfOk, OnOk};
 ghost use Rattle.calculus.specs.Pairs.{blank, with_values};
-ghost use Rattle.calculus.specs.declared.value.Value.TheVariants.{Text as TextValue};
 
-use calculus::{Domain, Kind, OutOfMemory, Row, Text, TryCopy, Value};
+use calculus::{Kind, OutOfMemory, Row, TryCopy, Value, blank_values, put_at};
 use memory::copies;
 use std::alloc::Global;
-
-/// The empty text.
-fn empty_text(alloc: Global) -> Result<Value, OutOfMemory>
-    ensures { IfOk result (λ value. value ≡ TextValue []) }
-{
-    match Text::of(alloc, &[])? {
-        Some(text) => Ok(Value::Text(text)),
-        None => Ok(Value::Int(0)),
-    }
-}
-
-/// What an attribute of the kind holds that isn't named: 0, or the empty text.
-fn blank(alloc: Global, kind: Kind) -> Result<Value, OutOfMemory>
-    ensures { IfOk result (λ value. value ≡ blank kind) }
-{
-    match kind {
-        Kind::Of(Domain::C(_)) => empty_text(alloc),
-        _ => Ok(Value::Int(0)),
-    }
-}
-
-/// The values of the row in which no attribute is named.
-fn blank_values(alloc: Global, kinds: &[Kind]) -> Result<Vec<Value>, OutOfMemory>
-    ensures { IfOk result (λ values. values.items ≡ map blank kinds.now) }
-{
-    let mut values = Vec::new(alloc);
-    for kind in kinds {
-        values.push(blank(alloc, *kind)?)?;
-    }
-    Ok(values)
-}
-
-/// Puts the value at the place, where there is one.
-fn put_at(place: u8, value: Value, row: &mut Vec<Value>)
-    ensures { row.new.items ≡ slice_set row.old.items place value }
-{
-    let place = place as usize;
-    if place < row.len() {
-        row[place] = value;
-    }
-}
 
 /// Puts the values at the places, one after the other.
 fn put_values(

@@ -5,7 +5,7 @@ ghost use Rattle.std.specs.List.{list_all};
 ghost use Rattle.calculus.specs.declared.change.Pair.{Pair as Changed};
 ghost use Rattle.calculus.specs.Pairs.{is_append};
 ghost use Rattle.calculus.specs.Term.{Env, holds, no_aggs};
-ghost use Rattle.stage_proc.specs.Given.{new_row_stands, pair_stands};
+ghost use Rattle.stage_proc.specs.Given.{new_row_allowed, pair_allowed};
 
 use calculus::{OutOfMemory, Pair, QQual, Row, Update, UpdateOp};
 use scalar_eval::{Assigned, holds};
@@ -43,7 +43,7 @@ fn cut_holds(alloc: Global, u: &Update, at: &Assigned) -> Result<bool, OutOfMemo
     }
 }
 
-/// Whether a new row stands, which is the only one of this assignment.
+/// Whether a new row is allowed, which is the only one of this assignment.
 fn stands_at(alloc: Global, u: &Update, at: &Assigned) -> Result<bool, OutOfMemory>
     ensures { IfOk result (λ b. b ≡ (list_all (λ q. holds no_aggs q at.now) u.now.checks && (if is_append u.now.op then holds no_aggs u.now.new_cut at.now else true))) }
 {
@@ -55,9 +55,9 @@ fn stands_at(alloc: Global, u: &Update, at: &Assigned) -> Result<bool, OutOfMemo
 
 /// Whether the new row stands, where there is one. It is lent to the test, and given back unless memory
 /// is wanting.
-fn new_stands(alloc: Global, u: &Update, new: &mut Option<Row>) -> Result<bool, OutOfMemory>
+fn new_allowed(alloc: Global, u: &Update, new: &mut Option<Row>) -> Result<bool, OutOfMemory>
     ensures row { OnOk result (new.new ≡ new.old) }
-    ensures stands { IfOk result (λ b. b ≡ new_row_stands u.now new.old) }
+    ensures stands { IfOk result (λ b. b ≡ new_row_allowed u.now new.old) }
 {
     let Some(row) = new.take() else {
         return Ok(true);
@@ -77,10 +77,10 @@ fn put_tested(
     pair: Pair,
     pairs: &mut Vec<Pair>,
 ) -> Result<(), OutOfMemory>
-    ensures { OnOk result (pairs.new.items ≡ pairs.old.items ++ filter (pair_stands u.now) (pair ∷ [])) }
+    ensures { OnOk result (pairs.new.items ≡ pairs.old.items ++ filter (pair_allowed u.now) (pair ∷ [])) }
 {
     let mut pair = pair;
-    match new_stands(alloc, u, &mut pair.new) {
+    match new_allowed(alloc, u, &mut pair.new) {
         Ok(true) => Ok(pairs.push(pair)?),
         Ok(false) => {
             drop(pair);
@@ -118,7 +118,7 @@ fn cuts_none(u: &Update) -> bool
 /// Whether nothing is to be tested of a new row.
 #[tactic(auto, using(crate::proofs::Untested::each_stands))]
 fn all_stand(u: &Update) -> bool
-    ensures { IsTrue result → (p : Changed) → pair_stands u.now p ≡ true }
+    ensures { IsTrue result → (p : Changed) → pair_allowed u.now p ≡ true }
 {
     u.checks.items().is_empty() && cuts_none(u)
 }
@@ -132,7 +132,7 @@ pub(crate) fn put_standing(
     pair: Pair,
     pairs: &mut Vec<Pair>,
 ) -> Result<(), OutOfMemory>
-    ensures { OnOk result (pairs.new.items ≡ pairs.old.items ++ filter (pair_stands u.now) (pair ∷ [])) }
+    ensures { OnOk result (pairs.new.items ≡ pairs.old.items ++ filter (pair_allowed u.now) (pair ∷ [])) }
 {
     if all_stand(u) {
         pairs.push(pair)?;

@@ -9,7 +9,7 @@ ghost use Rattle.calculus.specs.QueryParts.{targets_of, vars_of};
 ghost use Rattle.calculus.specs.Table.{tabled};
 ghost use Rattle.calculus.specs.Targets.{rows_given, some_lacks};
 ghost use Rattle.calculus.specs.VariableRows.{rows_of};
-ghost use Rattle.calculus.specs.Who.{Free};
+ghost use Rattle.calculus.specs.Who.{Unrestricted};
 ghost use Rattle.ovqp.specs.Causes.{HasCause as HasAnswerCause};
 ghost use Rattle.quel_meaning.specs.FitQueries.{is_kept, kept_alone, slots_count_up, sources_fit};
 ghost use Rattle.quel_meaning.specs.Tables.{column_of, table_of, some_query_lacks};
@@ -18,7 +18,7 @@ ghost use Rattle.stage_proc.specs.TableCauses.{CanBeAnswered, HasCause, HasOneCa
 use crate::columns::columns_of;
 use crate::sorting::sorted;
 use aggregates::settle;
-use am_traits::Base;
+use base_trait::Base;
 use calculus::{AggTable, Asked, List, OutOfMemory, Query, RowSet, Table};
 use decompose::{QueryFault, answer};
 use memory::push;
@@ -28,7 +28,7 @@ use std::alloc::Global;
 /// order that is asked for.
 fn table_with(alloc: Global, asked: &Asked, set: RowSet) -> Result<Table, OutOfMemory>
     ensures columns { IfOk result (λ table. table.columns ≡ map column_of (targets_of asked.now.query)) }
-    ensures told { IfOk result (λ table. (db : Db) → set ≡ answer db Free asked.now.query → table ≡ table_of db Free asked.now) }
+    ensures known { IfOk result (λ table. (db : Db) → set ≡ answer db Unrestricted asked.now.query → table ≡ table_of db Unrestricted asked.now) }
 {
     match columns_of(alloc, asked.query.targets.items()) {
         Ok(columns) => Ok(Table {
@@ -51,9 +51,9 @@ fn answer_by<B: Base>(
 ) -> Result<RowSet, QueryFault>
     requires { (db : Db) → B.database base.old ≡ Some db → IsTrue (list_all (is_kept db) (vars_of q.now)) }
     ensures rows { (db : Db) → B.database base.old ≡ Some db
-        → IfOk result (λ set. set ≡ rows_given (tabled tables.items) q.now (assigned (rows_of db Free) q.now)) }
+        → IfOk result (λ set. set ≡ rows_given (tabled tables.items) q.now (assigned (rows_of db Unrestricted) q.now)) }
     ensures none_lacks { (db : Db) → B.database base.old ≡ Some db
-        → OnOk result (IsFalse (some_lacks (tabled tables.items) q.now (assigned (rows_of db Free) q.now))) }
+        → OnOk result (IsFalse (some_lacks (tabled tables.items) q.now (assigned (rows_of db Unrestricted) q.now))) }
     ensures kept { B.database base.new ≡ B.database base.old }
     ensures stays { (s : Db) → B.schema base.old ≡ Some s → B.schema base.new ≡ Some s }
     ensures asked { (b : B) → B.asked b base.old → B.asked b base.new }
@@ -64,13 +64,13 @@ fn answer_by<B: Base>(
     set
 }
 
-/// The answer of a query over a database, for nobody in particular, its aggregates settled first.
+/// The answer of a query over a database, unrestricted, its aggregates settled first.
 fn settled_answer<B: Base>(alloc: Global, base: &mut B, q: &Query) -> Result<RowSet, QueryFault>
     requires read { (db : Db) → B.database base.old ≡ Some db → IsTrue (list_all (is_kept db) (vars_of q.now)) }
     requires fit { (db : Db) → B.database base.old ≡ Some db → IsTrue (sources_fit (kept_alone db) db q.now) }
     requires numbered { (db : Db) → B.database base.old ≡ Some db → IsTrue (slots_count_up q.now) }
-    ensures told { (db : Db) → B.database base.old ≡ Some db → IfOk result (λ set. set ≡ answer db Free q.now) }
-    ensures none_lacks { (db : Db) → B.database base.old ≡ Some db → OnOk result (IsFalse (lacks db Free q.now)) }
+    ensures known { (db : Db) → B.database base.old ≡ Some db → IfOk result (λ set. set ≡ answer db Unrestricted q.now) }
+    ensures none_lacks { (db : Db) → B.database base.old ≡ Some db → OnOk result (IsFalse (lacks db Unrestricted q.now)) }
     ensures kept { B.database base.new ≡ B.database base.old }
     ensures stays { (s : Db) → B.schema base.old ≡ Some s → B.schema base.new ≡ Some s }
     ensures asked { (b : B) → B.asked b base.old → B.asked b base.new }
@@ -80,7 +80,7 @@ fn settled_answer<B: Base>(alloc: Global, base: &mut B, q: &Query) -> Result<Row
     answer_by(alloc, base, q, tables)
 }
 
-/// The table of a query over a database, for nobody in particular: a column for each target, and the
+/// The table of a query over a database, unrestricted: a column for each target, and the
 /// rows of the answer in the order that is asked for. It is `NoValue` exactly where a target has no value
 /// in an assignment in which the qualification holds. What its aggregates are over is read once, before
 /// the variables are.
@@ -90,8 +90,8 @@ pub fn table_of<B: Base>(alloc: Global, base: &mut B, asked: &Asked) -> Result<T
     requires numbered { (db : Db) → B.database base.old ≡ Some db → IsTrue (slots_count_up asked.now.query) }
     // Whatever is known of the base, the columns are those of the tree.
     ensures columns { IfOk result (λ table. table.columns ≡ map column_of (targets_of asked.now.query)) }
-    ensures told { (db : Db) → B.database base.old ≡ Some db → IfOk result (λ table. table ≡ table_of db Free asked.now) }
-    ensures none_lacks { (db : Db) → B.database base.old ≡ Some db → OnOk result (IsFalse (lacks db Free asked.now.query)) }
+    ensures known { (db : Db) → B.database base.old ≡ Some db → IfOk result (λ table. table ≡ table_of db Unrestricted asked.now) }
+    ensures none_lacks { (db : Db) → B.database base.old ≡ Some db → OnOk result (IsFalse (lacks db Unrestricted asked.now.query)) }
     ensures kept { B.database base.new ≡ B.database base.old }
     ensures stays { (s : Db) → B.schema base.old ≡ Some s → B.schema base.new ≡ Some s }
     ensures asked { (b : B) → B.asked b base.old → B.asked b base.new }
@@ -101,7 +101,7 @@ pub fn table_of<B: Base>(alloc: Global, base: &mut B, asked: &Asked) -> Result<T
     Ok(table_with(alloc, asked, set)?)
 }
 
-/// The tables of queries over a database, in their order, for nobody in particular. It is `NoValue`
+/// The tables of queries over a database, in their order, unrestricted. It is `NoValue`
 /// exactly where in one of them a target has no value in an assignment in which the qualification holds.
 pub fn tables_of<B: Base>(
     alloc: Global,
@@ -111,8 +111,8 @@ pub fn tables_of<B: Base>(
     requires { (db : Db) → B.database base.old ≡ Some db → All (λ a. CanBeAnswered db a.query) asked.now }
     // Whatever is known of the base, there is a table for each query, with the columns of its tree.
     ensures columns { IfOk result (λ tables. map (λ t. t.columns) tables ≡ map (λ a. map column_of (targets_of a.query)) asked.now) }
-    ensures told { (db : Db) → B.database base.old ≡ Some db → IfOk result (λ tables. tables ≡ map (table_of db Free) asked.now) }
-    ensures none_lacks { (db : Db) → B.database base.old ≡ Some db → OnOk result (IsFalse (some_query_lacks db Free asked.now)) }
+    ensures known { (db : Db) → B.database base.old ≡ Some db → IfOk result (λ tables. tables ≡ map (table_of db Unrestricted) asked.now) }
+    ensures none_lacks { (db : Db) → B.database base.old ≡ Some db → OnOk result (IsFalse (some_query_lacks db Unrestricted asked.now)) }
     ensures kept { B.database base.new ≡ B.database base.old }
     ensures stays { (s : Db) → B.schema base.old ≡ Some s → B.schema base.new ≡ Some s }
     ensures asked { (b : B) → B.asked b base.old → B.asked b base.new }

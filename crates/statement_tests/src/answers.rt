@@ -20,7 +20,7 @@ const WANTING: u8 = 8;
 /// The number of the first name that isn't there, and the number that refuses the statement, each 0 where
 /// there is none; how many targets the queries of its tree have; and 1 where
 /// it is planned as a relation `p` without rows, whose one attribute is a number of two bytes.
-type Told = [u8; 4];
+type Answered = [u8; 4];
 
 fn ann(alloc: Global) -> Result<Name, OutOfMemory> {
     Name::of(alloc, b"ann")?.ok_or(OutOfMemory)
@@ -77,7 +77,7 @@ fn planned(alloc: Global, user: &Name, base: &mut DbPlain, work: &Utility) -> [u
 }
 
 /// What a tree says, or what refuses it.
-fn told_of(
+fn answered_of(
     alloc: Global,
     user: &Name,
     base: &mut DbPlain,
@@ -105,44 +105,44 @@ fn named(alloc: Global, user: &Name, base: &mut DbPlain, ranges: &RangeTable, s:
 }
 
 /// What a user's statement asks a base for.
-fn told_in(alloc: Global, user: &Name, base: &mut DbPlain, s: &Statement) -> Told {
+fn answered_in(alloc: Global, user: &Name, base: &mut DbPlain, s: &Statement) -> Answered {
     let ranges = RangeTable::new(alloc);
     let name = named(alloc, user, base, &ranges, s);
     let tree = resolve(alloc, s, user, &ranges, base);
-    let [number, targets, made] = told_of(alloc, user, base, &tree);
+    let [number, targets, made] = answered_of(alloc, user, base, &tree);
     drop(tree);
     drop(ranges);
     [name, number, targets, made]
 }
 
 /// What ann's statement asks an empty database for.
-fn told(alloc: Global, s: &Statement) -> Told {
+fn answered(alloc: Global, s: &Statement) -> Answered {
     match both(ann(alloc), ann(alloc)) {
         Ok((user, dba)) => {
             let mut base = DbPlain::new(alloc, dba);
-            let told = told_in(alloc, &user, &mut base, s);
+            let answered = answered_in(alloc, &user, &mut base, s);
             drop(base);
             drop(user);
-            told
+            answered
         }
         Err(_) => [WANTING; 4],
     }
 }
 
 /// What the statement that a text begins with asks an empty database for.
-fn answer(alloc: Global, text: &[u8]) -> Told {
+fn answer(alloc: Global, text: &[u8]) -> Answered {
     match next_statement(alloc, text, 0) {
         Ok(Some((s, _))) => {
-            let told = told(alloc, &s);
+            let answered = answered(alloc, &s);
             drop(s);
-            told
+            answered
         }
         _ => [WANTING; 4],
     }
 }
 
 /// A text, and what its statement asks for.
-const ANSWERS: [(&[u8], Told); 31] = [
+const ANSWERS: [(&[u8], Answered); 31] = [
     (b"range of x is p", [10, 10, 0, 0]),
     (b"range of x is relation", [0, 0, 0, 0]),
     (b"retrieve (x.a)", [11, 11, 0, 0]),
@@ -184,8 +184,8 @@ const ANSWERS: [(&[u8], Told); 31] = [
 
 #[test]
 fn names_refuse_before_kinds_and_kinds_before_limits(rt: HostRuntime) {
-    for (text, told) in &ANSWERS {
-        assert!(rt; answer(rt.alloc(), *text) == *told);
+    for (text, answered) in &ANSWERS {
+        assert!(rt; answer(rt.alloc(), *text) == *answered);
     }
 }
 

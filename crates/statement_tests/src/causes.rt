@@ -1,7 +1,7 @@
 //! The parts of what refuses a statement.
 
 use crate::given::name;
-use am_traits::BaseFault;
+use base_trait::BaseFault;
 use calculus::{Domain, Kind};
 use quel_refusals::{is_full, is_taken, is_too_wide, repeats};
 use std::alloc::Global;

@@ -1,4 +1,4 @@
-//! Tests of checking, naming, asking, judging and resolving statements, and of what they become, through
+//! Tests of checking, naming, asking, refusing and resolving statements, and of what they become, through
 //! public calls alone.
 #![tactic(auto)]
 

@@ -7,7 +7,7 @@ use calculus::{
     AggOp, AggSource, ArithOp, CmpOp, Name, QAgg, QQual, QTerm, Query, RelInfo, Statement,
 };
 use quel_check::{Known, inner_vars, vars_in};
-use quel_refusals::aggregates_stand;
+use quel_refusals::aggregates_allowed;
 use quel_resolve::query_of;
 use std::alloc::Global;
 use std::process::Abort;
@@ -193,7 +193,7 @@ fn stand(rt: &impl Abort, alloc: Global, text: &[u8]) -> bool {
     let mut base = base(rt, alloc, (0, 0, 1), SMALL);
     let ranges = ranges(rt, alloc);
     let s = statement(rt, alloc, text);
-    let stand = aggregates_stand(alloc, &mut base, &ranges, &s).expect(rt, "an answer");
+    let stand = aggregates_allowed(alloc, &mut base, &ranges, &s).expect(rt, "an answer");
     drop(s);
     drop(ranges);
     drop(base);

@@ -6,11 +6,11 @@ ghost use Rattle.stored_database.specs.Printed.{is_file};
 ghost use Rattle.catalog_moves.specs.Files.{files_of};
 
 use crate::databases::new_disk;
-use crate::made::{
+use crate::shared::{
     GONE, INDEXED, MADE_BARE_P, PERMITTED, RULED, STORED, Step, change_of, key, named,
 };
-use access_traits::PageStore;
-use am_traits::{Base, BaseFault};
+use am_traits::PageStore;
+use base_trait::{Base, BaseFault};
 use batch_store::BatchStore;
 use calculus::{DbChange, RelKey, Spec};
 use catalog::Catalog;
@@ -25,7 +25,7 @@ fn loaded<S: PageStore>(alloc: Global, rt: &impl Abort, store: &mut S) -> Catalo
     Catalog::load(alloc, store, dba).expect(rt, "a catalogue")
 }
 
-/// Lays a change on the catalogues where it is lawful; whether it is.
+/// Applies a change to the catalogues where it is lawful; whether it is.
 fn write_fit<S: PageStore>(
     alloc: Global,
     catalog: &mut Catalog,

@@ -1,6 +1,6 @@
 ghost use Rattle.std.specs.Prelude.{None};
 
-use access_traits::{PageStore, StoreFault};
+use am_traits::{PageStore, StoreFault};
 use disk_model::{Addr, Page};
 use std::alloc::Global;
 
@@ -16,7 +16,7 @@ impl Drop for Entry {
     }
 }
 
-/// Pages in memory, of which nothing is told, and how often they were asked for and put.
+/// Pages in memory, of which nothing is known, and how often they were asked for and put.
 pub struct Counting {
     entries: Vec<Entry>,
     last: Option<Addr>,

@@ -1,9 +1,9 @@
 // Databases on disks that stop and crash, and that are damaged.
-use crate::made::{
+use crate::shared::{
     COME, GONE_WITH_VIEW, INDEXED, MADE_BARE_Q, MADE_P, MADE_Q, MOVED, PERMITTED, RULED, STORED,
-    Step, UNPERMITTED, UNRULED, VIEWED, named, take, take_all, told,
+    Step, UNPERMITTED, UNRULED, VIEWED, known, named, take, take_all,
 };
-use am_traits::{Base, BaseFault};
+use base_trait::{Base, BaseFault};
 use batch_file::{Restored, restore};
 use calculus::List;
 use db_disk::{CreateFault, DbDisk, OpenFault, create_db};
@@ -97,7 +97,7 @@ fn disk_with(alloc: Global, rt: &impl Abort, pages: &Pages, stop: Option<u64>) -
 
 /// What a database says.
 fn says<B: Base>(alloc: Global, rt: &impl Abort, base: &mut B) -> List<i64> {
-    match told(alloc, rt, base) {
+    match known(alloc, rt, base) {
         Ok(said) => said,
         Err(_) => rt.panic("an answer"),
     }
@@ -112,7 +112,7 @@ fn opened<D: Disk + Drop>(alloc: Global, rt: &impl Abort, disk: D) -> DbDisk<D> 
 }
 
 /// What the database on a disk says; a restore behind its opening finds nothing to do.
-fn told_by<D: Disk + Drop>(alloc: Global, rt: &impl Abort, disk: D) -> List<i64> {
+fn answers_of<D: Disk + Drop>(alloc: Global, rt: &impl Abort, disk: D) -> List<i64> {
     let mut base = opened(alloc, rt, disk);
     let said = says(alloc, rt, &mut base);
     let mut disk = base.into_disk();
@@ -141,14 +141,14 @@ fn stopped(
     let stop = calls_for(pages).saturating_add(calls);
     let (done, disk) = with_taken(alloc, rt, disk_with(alloc, rt, pages, Some(stop)), step);
     let disk = disk.crash(alloc, left).expect(rt, "memory");
-    (done, told_by(alloc, rt, disk))
+    (done, answers_of(alloc, rt, disk))
 }
 
 /// What is said after a step.
 fn said_after(alloc: Global, rt: &impl Abort, pages: &Pages, step: Step) -> List<i64> {
     let (done, disk) = with_taken(alloc, rt, disk_with(alloc, rt, pages, None), step);
     assert!(rt; done);
-    told_by(alloc, rt, disk)
+    answers_of(alloc, rt, disk)
 }
 
 /// Whether a step that stops after so many calls, with each kind of crash, leaves what was said before it
@@ -176,7 +176,7 @@ fn is_either(
 /// step takes.
 fn holds_wherever(alloc: Global, rt: &impl Abort, steps: &[Step], step: Step) -> u64 {
     let pages = begun(alloc, rt, steps);
-    let before = told_by(alloc, rt, disk_with(alloc, rt, &pages, None));
+    let before = answers_of(alloc, rt, disk_with(alloc, rt, &pages, None));
     let after = said_after(alloc, rt, &pages, step);
     assert!(rt; before.items() != after.items());
     for calls in 0..MOST {
@@ -258,7 +258,7 @@ fn what_is_no_database_is_not_opened(rt: HostRuntime) {
     let mut disk = disk_with(rt.alloc(), &rt, &pages, None);
     let dba = named(rt.alloc(), &rt, b"ann");
     assert!(rt; create_db(&mut disk, &dba) == Err(CreateFault::Exists));
-    assert!(rt; told_by(rt.alloc(), &rt, disk).items().first() == Some(&0));
+    assert!(rt; answers_of(rt.alloc(), &rt, disk).items().first() == Some(&0));
 }
 
 /// A disk with these pages, where one byte of one page is another.
@@ -284,18 +284,18 @@ fn forged(
 
 /// What a forged disk is: 0 the same database, 1 another, 2 refused at a page of these files, 3 no
 /// database.
-fn judged<D: Disk + Drop>(alloc: Global, rt: &impl Abort, disk: D, same: &[i64]) -> usize {
+fn kind_of_disk<D: Disk + Drop>(alloc: Global, rt: &impl Abort, disk: D, same: &[i64]) -> usize {
     let mut base = match DbDisk::open_db(alloc, disk) {
         Ok(base) => base,
-        Err(unopened) => return judged_fault(rt, unopened.fault),
+        Err(unopened) => return kind_of_fault(rt, unopened.fault),
     };
-    match told(alloc, rt, &mut base) {
+    match known(alloc, rt, &mut base) {
         Ok(said) => usize::from(said.items() != same),
-        Err(fault) => judged_fault(rt, OpenFault::Base(fault)),
+        Err(fault) => kind_of_fault(rt, OpenFault::Base(fault)),
     }
 }
 
-fn judged_fault(rt: &impl Abort, fault: OpenFault) -> usize {
+fn kind_of_fault(rt: &impl Abort, fault: OpenFault) -> usize {
     match fault {
         OpenFault::NotADatabase => 3,
         OpenFault::Base(BaseFault::Damaged { file, page: _ }) => {
@@ -318,7 +318,7 @@ fn turned(
 ) -> [u32; 4] {
     let mut counts = [0u32; 4];
     for byte in 0..1024usize {
-        let kind = judged(alloc, rt, forged(alloc, rt, pages, at, byte, by), same);
+        let kind = kind_of_disk(alloc, rt, forged(alloc, rt, pages, at, byte, by), same);
         match counts.get_mut(kind) {
             Some(count) => *count = count.saturating_add(1),
             None => rt.panic("a kind"),
@@ -333,7 +333,7 @@ const SMALL: [Step; 6] = [MADE_P, MADE_Q, VIEWED, PERMITTED, RULED, INDEXED];
 #[test]
 fn a_forged_page_is_refused_or_is_another_database(rt: HostRuntime) {
     let pages = begun(rt.alloc(), &rt, &SMALL);
-    let same = told_by(rt.alloc(), &rt, forged(rt.alloc(), &rt, &pages, 9, 0, 0));
+    let same = answers_of(rt.alloc(), &rt, forged(rt.alloc(), &rt, &pages, 9, 0, 0));
     assert!(rt; pages.pages.len() == ADDRESSES.len());
     for at in 2..5usize {
         let counts = turned(rt.alloc(), &rt, &pages, at, 1, same.items());

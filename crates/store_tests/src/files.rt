@@ -5,8 +5,8 @@ ghost use Rattle.page_cells.specs.RowBytes.{is_row};
 
 use crate::counting::Counting;
 use access::{Method, open_method};
-use access_traits::{AccessMethod, PageStore, RelFile};
-use am_traits::BaseFault;
+use am_traits::{AccessMethod, PageStore, RelFile};
+use base_trait::BaseFault;
 use calculus::{Domain, List, Place, Probe, Row, Spec, Value};
 use disk_model::{Addr, Page};
 use heap_am::Heap;

@@ -13,4 +13,4 @@ mod databases;
 #[cfg(test)]
 mod files;
 #[cfg(test)]
-mod made;
+mod shared;

@@ -13,13 +13,13 @@ use Rattle.std.specs.declared.cmp.Ordering.{Ordering}
 use Rattle.std.specs.declared.cmp.Ordering.TheVariants.{Equal}
 use Rattle.stored_database.specs.Printed.{relation_entry, entries_for}
 use Rattle.stored_database.proofs.Members.{IsIn}
-use Rattle.stored_database.proofs.PrintedEntries.{told_entries}
+use Rattle.stored_database.proofs.PrintedEntries.{grouped_entries}
 use Rattle.stored_database.proofs.PrintedTrees.{parts_are, trees_for}
 use Rattle.stored_database.proofs.Sets.{in_insert}
 use Rattle.stored_database.specs.ChangeLaws.{resizes}
 use Rattle.stored_database.specs.Moves.{going, coming, nothing}
 use Rattle.stored_database.proofs.Lists.{moved_three, moved_in}
-use Rattle.stored_database.proofs.Three.{relation_entries, relation_attributes, attributes, attributes_for, same_file, same_owner, told_attributes, columns_are, entries_are_apart, attributes_are_apart, trees_are_apart}
+use Rattle.stored_database.proofs.Three.{relation_entries, relation_attributes, attributes, attributes_for, same_file, same_owner, grouped_attributes, columns_are, entries_are_apart, attributes_are_apart, trees_are_apart}
 use Rattle.stored_database.proofs.Staying.{is_fresh, relation_there, relation_stays, relation_attributes_stay}
 use Rattle.stored_database.proofs.Unmoved.{Moves, views_same, indexes_same, view_attributes_same, index_attributes_same, trees_same}
 
@@ -32,7 +32,7 @@ module _ (info : RelInfo) (rows : List Row) where
 
   pub create : Moves (change.Create info rows)
   unfolding made laid going coming entries_for adds_what_is_new resizes
-  create db f after stands new_stands lawful agree = record {
+  create db f after stands new_allowed lawful agree = record {
     gone_attributes = [];
     come_attributes = attributes_for after (record nothing { relations = made ∷ [] });
     gone_trees = [];
@@ -41,17 +41,17 @@ module _ (info : RelInfo) (rows : List Row) where
     come_columns_are = columns_are after (record nothing { relations = made ∷ [] });
     gone_parts_are = refl;
     come_parts_are = parts_are after (record nothing { relations = made ∷ [] });
-    entries = moved_three same_file told_entries.itself told_entries.turned
-        (moved_in same_file told_entries.itself told_entries.turned (relation_entry f) (relation_entry after) db.relations by_key made (tied_itself key_total made.info.key) (relation_entries after (laid db (change.Create info rows)) new_stands) fresh
-        (λ r at. relation_stays f after db (change.Create info rows) stands new_stands agree r r at (kept r at) refl refl))
-        (views_same f after db (change.Create info rows) stands new_stands agree (λ v at. at))
-        (indexes_same f after db (change.Create info rows) stands new_stands agree (λ x at. at)) (entries_are_apart f db stands) (entries_are_apart after (laid db (change.Create info rows)) new_stands);
-    columns = moved_three same_owner told_attributes.itself told_attributes.turned
-        (moved_in same_owner told_attributes.itself told_attributes.turned (λ (r : Relation). attributes f r.info) (λ (r : Relation). attributes after r.info) db.relations by_key made (tied_itself key_total made.info.key) (relation_attributes after (laid db (change.Create info rows)) new_stands) fresh
-        (λ r at. relation_attributes_stay f after db (change.Create info rows) stands new_stands agree r r at (kept r at) refl))
-        (view_attributes_same f after db (change.Create info rows) stands new_stands agree (λ v at. at))
-        (index_attributes_same f after db (change.Create info rows) stands new_stands agree (λ x at. at)) (attributes_are_apart f db stands) (attributes_are_apart after (laid db (change.Create info rows)) new_stands);
-    trees = trees_same f after db (change.Create info rows) stands new_stands agree (λ v at. at) (λ p at. at) (λ p at. at) (trees_are_apart after (laid db (change.Create info rows)) new_stands);
+    entries = moved_three same_file grouped_entries.itself grouped_entries.turned
+        (moved_in same_file grouped_entries.itself grouped_entries.turned (relation_entry f) (relation_entry after) db.relations by_key made (tied_itself key_total made.info.key) (relation_entries after (laid db (change.Create info rows)) new_allowed) fresh
+        (λ r at. relation_stays f after db (change.Create info rows) stands new_allowed agree r r at (kept r at) refl refl))
+        (views_same f after db (change.Create info rows) stands new_allowed agree (λ v at. at))
+        (indexes_same f after db (change.Create info rows) stands new_allowed agree (λ x at. at)) (entries_are_apart f db stands) (entries_are_apart after (laid db (change.Create info rows)) new_allowed);
+    columns = moved_three same_owner grouped_attributes.itself grouped_attributes.turned
+        (moved_in same_owner grouped_attributes.itself grouped_attributes.turned (λ (r : Relation). attributes f r.info) (λ (r : Relation). attributes after r.info) db.relations by_key made (tied_itself key_total made.info.key) (relation_attributes after (laid db (change.Create info rows)) new_allowed) fresh
+        (λ r at. relation_attributes_stay f after db (change.Create info rows) stands new_allowed agree r r at (kept r at) refl))
+        (view_attributes_same f after db (change.Create info rows) stands new_allowed agree (λ v at. at))
+        (index_attributes_same f after db (change.Create info rows) stands new_allowed agree (λ x at. at)) (attributes_are_apart f db stands) (attributes_are_apart after (laid db (change.Create info rows)) new_allowed);
+    trees = trees_same f after db (change.Create info rows) stands new_allowed agree (λ v at. at) (λ p at. at) (λ p at. at) (trees_are_apart after (laid db (change.Create info rows)) new_allowed);
   }
     where
       fresh : (r : Relation) → IsIn r db.relations → by_key made r ≡ Equal → ⊥

@@ -1,4 +1,4 @@
--- Pages stand for a database exactly where they are the pages that it has.
+-- Pages denote a database exactly where they are the pages that it has.
 use Rattle.std.proofs.Common.{◌≡◌, sym, ap, ◌∙◌, ℕ, ◌==◌, ◌&&◌, true, List, take, drop, Some}
 use Rattle.std.specs.Prelude.{bytes_eq}
 use Rattle.std.proofs.lemmas.Option.{same_Some}
@@ -17,11 +17,11 @@ use Rattle.stored_database.specs.Laws.{HasPages, PagesStandExactly, HeadersAreTh
 use Rattle.stored_database.specs.Names.{name_of}
 use Rattle.stored_database.specs.Printed.{files_in}
 use Rattle.stored_database.specs.Spelled.{spelled, relations_of, indexes_of, views_of, rules_of, permits_of, columns_stand, parts_stand}
-use Rattle.stored_database.specs.Standing.{header_bytes, header_of, birth, database_of, standing, StandsFor}
+use Rattle.stored_database.specs.Denoting.{header_bytes, header_of, birth, database_of, denoted, Denotes}
 use Rattle.stored_database.proofs.CatalogueRead.{catalogues_are_read}
 use Rattle.stored_database.proofs.FilesAgain.{what_is_read_is_printed}
 use Rattle.stored_database.proofs.Fresh.{header_again}
-use Rattle.stored_database.proofs.IsOne.{the_test_tells}
+use Rattle.stored_database.proofs.IsOne.{the_test_decides}
 use Rattle.stored_database.proofs.PrintedLaw.{what_is_printed_is_read}
 use Rattle.stored_database.proofs.Reading.{bind_some, when_some, same_number}
 
@@ -53,8 +53,8 @@ own_dba dba files cat db h =
     let f = bind_some (permits_of cat) _ db e.2 in
     ap (λ (d : Db). d.dba) (same_Some _ db f.2)
 
-pages_had : (m : Image) (db : Db) → IsDatabase db → StandsFor m db → HasPages m db
-unfolding standing database_of
+pages_had : (m : Image) (db : Db) → IsDatabase db → Denotes m db → HasPages m db
+unfolding denoted database_of
 pages_had m db is_one h =
     let o = bind_some (database_of m) (λ db. when (is_database db) db) db h in
     let w = when_some (is_database o.0) o.0 db o.2 in
@@ -74,13 +74,13 @@ pages_had m db is_one h =
       has = p.1;
     }
 
-pages_stand : (m : Image) (db : Db) → IsDatabase db → HasPages m db → StandsFor m db
-unfolding standing database_of
+pages_stand : (m : Image) (db : Db) → IsDatabase db → HasPages m db → Denotes m db
+unfolding denoted database_of
 pages_stand m db is_one h =
     (λ i. (h.there i >>= (λ page. header_of page >>= (λ dba. check (birth m == 1) >>= (λ born. catalogue_in (pages_of m) >>= (λ cat. spelled dba (pages_of m) cat))))) >>= (λ db. when (is_database db) db))
     ∙ (λ i. (h.header i >>= (λ dba. check (h.born i == 1) >>= (λ born. h.catalogue i >>= (λ cat. spelled dba (pages_of m) cat)))) >>= (λ db. when (is_database db) db))
     ∙ (λ i. what_is_printed_is_read (pages_of m) h.files db is_one h.has i >>= (λ db. when (is_database db) db))
-    ∙ ap (λ t. when t db) ((the_test_tells db).1 is_one)
+    ∙ ap (λ t. when t db) ((the_test_decides db).1 is_one)
 
 pub pages_stand_exactly : PagesStandExactly
 pages_stand_exactly m db is_one = (pages_had m db is_one, pages_stand m db is_one)

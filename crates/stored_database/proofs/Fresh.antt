@@ -19,7 +19,7 @@ use Rattle.stored_database.specs.Laws.{FreshPagesStand}
 use Rattle.stored_database.specs.Names.{name_of, name_bytes}
 use Rattle.stored_database.specs.Parts.{part_of, part_cmp}
 use Rattle.stored_database.specs.Spelled.{columns_stand, parts_stand, relations_of, indexes_of, views_of, rules_of, permits_of, spelled}
-use Rattle.stored_database.specs.Standing.{header_bytes, header_of, birth, database_of, standing, IsEmptyPage, IsFresh, empty_database}
+use Rattle.stored_database.specs.Denoting.{header_bytes, header_of, birth, database_of, denoted, IsEmptyPage, IsFresh, empty_database}
 use Rattle.stored_database.proofs.Reading.{take_front, name_again, length_name, together}
 
 -- ---- the header
@@ -83,7 +83,7 @@ unfolding is_database
 empty_is_one dba named = together (is_name dba && true) true (together (is_name dba) true named refl) refl
 
 pub fresh_pages_stand : FreshPagesStand
-unfolding standing database_of
+unfolding denoted database_of
 fresh_pages_stand m dba named f =
     let read = empty_read m dba f in
     ap (λ o. (o >>= (λ page. header_of page >>= (λ dba. check (birth m == 1) >>= (λ born. catalogue_in (pages_of m) >>= (λ cat. spelled dba (pages_of m) cat))))) >>= (λ db. when (is_database db) db)) f.there

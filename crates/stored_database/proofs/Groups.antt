@@ -47,8 +47,8 @@ find_one {A} test x (y ∷ ys) e = go (test y) e (find_one test x ys)
 
 -- ---- groups
 
--- How groups are told: a test of each group says of all items of one whether the two are the same, and of equal items the same; each group ascends.
-pub record Told {X A : Type 0} (cmp : A → A → Ordering) (g : X → List A) (p : X → A → Bool) (same : X → X → Bool) : Type 0 where
+-- How groups are told apart: a test of each group says of all items of one whether the two are the same, and of equal items the same; each group ascends.
+pub record Grouped {X A : Type 0} (cmp : A → A → Ordering) (g : X → List A) (p : X → A → Bool) (same : X → X → Bool) : Type 0 where
   pub order : IsTotalOrder cmp
   pub tests : (x y : X) → AllByRecursion (λ a. p x a ≡ same x y) (g y)
   pub equals : (x : X) (a b : A) → is_eq (cmp a b) ≡ true → p x a ≡ p x b
@@ -56,14 +56,14 @@ pub record Told {X A : Type 0} (cmp : A → A → Ordering) (g : X → List A) (
   pub turned : (x y : X) → same x y ≡ same y x
   pub ascends : (x : X) → IsStrictlySortedBy cmp (g x)
 
-module _ {X A : Type 0} {cmp : A → A → Ordering} {g : X → List A} {p : X → A → Bool} {same : X → X → Bool} (told : Told cmp g p same) where
+module _ {X A : Type 0} {cmp : A → A → Ordering} {g : X → List A} {p : X → A → Bool} {same : X → X → Bool} (grouped : Grouped cmp g p same) where
   -- one group is found in itself
   in_itself : (x : X) → filter (p x) (g x) ≡ g x
-  in_itself x = filter_pass (p x) (g x) (all_then (λ a. p x a ≡ same x x) (λ a. p x a ≡ true) (g x) (λ a e. e ∙ told.itself x) (told.tests x x))
+  in_itself x = filter_pass (p x) (g x) (all_then (λ a. p x a ≡ same x x) (λ a. p x a ≡ true) (g x) (λ a e. e ∙ grouped.itself x) (grouped.tests x x))
 
   -- and none of it in another
   none_pass : (x y : X) → same x y ≡ false → AllByRecursion (λ a. p x a ≡ false) (g y)
-  none_pass x y other = all_then (λ a. p x a ≡ same x y) (λ a. p x a ≡ false) (g y) (λ a e. e ∙ other) (told.tests x y)
+  none_pass x y other = all_then (λ a. p x a ≡ same x y) (λ a. p x a ≡ false) (g y) (λ a e. e ∙ other) (grouped.tests x y)
 
   none_of_all : (x : X) (ys : List X) → AllByRecursion (λ y. same x y ≡ false) ys → AllByRecursion (λ a. p x a ≡ false) (flat_map g ys)
   none_of_all x ys others = all_flat (λ a. p x a ≡ false) g ys (all_then (λ y. same x y ≡ false) (λ y. AllByRecursion (λ a. p x a ≡ false) (g y)) ys (none_pass x) others)
@@ -77,7 +77,7 @@ module _ {X A : Type 0} {cmp : A → A → Ordering} {g : X → List A} {p : X �
       first = filter_append (p x) (g x) (flat_map g xs) ∙ ap₂ (λ k l. k ++ l) (in_itself x) (filter_fail (p x) (flat_map g xs) (none_of_all x xs apart.0)) ∙ append-nil (g x)
 
       one : (y : X) → same x y ≡ false → filter (p y) (flat_map g xs) ≡ g y → filter (p y) (g x ++ flat_map g xs) ≡ g y
-      one y other e = filter_append (p y) (g x) (flat_map g xs) ∙ ap₂ (λ k l. k ++ l) (filter_fail (p y) (g x) (none_pass y x (told.turned y x ∙ other))) e
+      one y other e = filter_append (p y) (g x) (flat_map g xs) ∙ ap₂ (λ k l. k ++ l) (filter_fail (p y) (g x) (none_pass y x (grouped.turned y x ∙ other))) e
 
       all_both_then : (ys : List X) → AllByRecursion (λ y. same x y ≡ false) ys → AllByRecursion (λ y. filter (p y) (flat_map g xs) ≡ g y) ys → AllByRecursion (λ y. filter (p y) (g x ++ flat_map g xs) ≡ g y) ys
       all_both_then [] others founds = tt
@@ -88,7 +88,7 @@ module _ {X A : Type 0} {cmp : A → A → Ordering} {g : X → List A} {p : X �
   not_equal x a b passes fails = go (is_eq (cmp a b)) refl
     where
       go : (t : Bool) → is_eq (cmp a b) ≡ t → t ≡ false
-      go true e = absurd (true≢false (sym passes ∙ told.equals x a b e ∙ fails))
+      go true e = absurd (true≢false (sym passes ∙ grouped.equals x a b e ∙ fails))
       go false e = refl
 
   across : (x : X) (xs bs : List A) → AllByRecursion (λ a. p x a ≡ true) xs → AllByRecursion (λ b. p x b ≡ false) bs → AllByRecursion (λ a. AllByRecursion (λ b. is_eq (cmp a b) ≡ false) bs) xs
@@ -99,12 +99,12 @@ module _ {X A : Type 0} {cmp : A → A → Ordering} {g : X → List A} {p : X �
   pub groups_apart : (xs : List X) → Pairs (λ x y. same x y ≡ false) xs → NoneEqual cmp (flat_map g xs)
   groups_apart [] apart = tt
   groups_apart (x ∷ xs) apart =
-      pairs_append (λ a b. is_eq (cmp a b) ≡ false) (g x) (flat_map g xs) (sorted_apart cmp (g x) (told.ascends x)) (groups_apart xs apart.1)
-      (across x (g x) (flat_map g xs) (all_then (λ a. p x a ≡ same x x) (λ a. p x a ≡ true) (g x) (λ a e. e ∙ told.itself x) (told.tests x x)) (none_of_all x xs apart.0))
+      pairs_append (λ a b. is_eq (cmp a b) ≡ false) (g x) (flat_map g xs) (sorted_apart cmp (g x) (grouped.ascends x)) (groups_apart xs apart.1)
+      (across x (g x) (flat_map g xs) (all_then (λ a. p x a ≡ same x x) (λ a. p x a ≡ true) (g x) (λ a e. e ∙ grouped.itself x) (grouped.tests x x)) (none_of_all x xs apart.0))
 
   -- each group is found among all in their order
   pub groups_found : (xs : List X) → Pairs (λ x y. same x y ≡ false) xs → AllByRecursion (λ x. filter (p x) (in_order cmp (flat_map g xs)) ≡ g x) xs
   groups_found xs apart =
       all_then (λ x. filter (p x) (flat_map g xs) ≡ g x) (λ x. filter (p x) (in_order cmp (flat_map g xs)) ≡ g x) xs
-      (λ x e. filter_in_order told.order (p x) (flat_map g xs) (groups_apart xs apart) ∙ ap (in_order cmp) e ∙ in_order_already cmp (g x) (told.ascends x))
+      (λ x e. filter_in_order grouped.order (p x) (flat_map g xs) (groups_apart xs apart) ∙ ap (in_order cmp) e ∙ in_order_already cmp (g x) (grouped.ascends x))
       (found_among xs apart)

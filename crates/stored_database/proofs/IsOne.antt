@@ -132,5 +132,5 @@ is_found : (db : Db) → IsDatabase db → is_database db ≡ true
 unfolding is_database
 is_found db d = search (rules, and_from, ascends_from_sorted, rows_ascending, d)
 
-pub the_test_tells : (db : Db) → (is_database db ≡ true) ↔ IsDatabase db
-the_test_tells db = (is_one db, is_found db)
+pub the_test_decides : (db : Db) → (is_database db ≡ true) ↔ IsDatabase db
+the_test_decides db = (is_one db, is_found db)

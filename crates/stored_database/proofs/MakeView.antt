@@ -13,13 +13,13 @@ use Rattle.std.specs.declared.cmp.Ordering.{Ordering}
 use Rattle.std.specs.declared.cmp.Ordering.TheVariants.{Equal}
 use Rattle.stored_database.specs.Printed.{view_entry, entries_for}
 use Rattle.stored_database.proofs.Members.{IsIn}
-use Rattle.stored_database.proofs.PrintedEntries.{told_entries}
-use Rattle.stored_database.proofs.PrintedTrees.{parts_are, trees_for, same_tree, told_trees, view_tree}
+use Rattle.stored_database.proofs.PrintedEntries.{grouped_entries}
+use Rattle.stored_database.proofs.PrintedTrees.{parts_are, trees_for, same_tree, grouped_trees, view_tree}
 use Rattle.stored_database.proofs.Sets.{in_insert}
 use Rattle.stored_database.specs.ChangeLaws.{resizes}
 use Rattle.stored_database.specs.Moves.{going, coming, nothing}
 use Rattle.stored_database.proofs.Lists.{moved_three, moved_in}
-use Rattle.stored_database.proofs.Three.{view_entries, view_attributes, view_trees, attributes, attributes_for, same_file, same_owner, told_attributes, columns_are, entries_are_apart, attributes_are_apart, trees_are_apart}
+use Rattle.stored_database.proofs.Three.{view_entries, view_attributes, view_trees, attributes, attributes_for, same_file, same_owner, grouped_attributes, columns_are, entries_are_apart, attributes_are_apart, trees_are_apart}
 use Rattle.stored_database.proofs.Staying.{is_fresh, view_there, view_stays, view_attributes_stay, view_tree_stays}
 use Rattle.stored_database.proofs.Unmoved.{Moves, relations_same, indexes_same, relation_attributes_same, index_attributes_same, rule_trees_same, permit_trees_same}
 
@@ -32,7 +32,7 @@ module _ (info : RelInfo) (query : Query) where
 
   pub view : Moves (change.View info query)
   unfolding made laid going coming entries_for adds_what_is_new resizes
-  view db f after stands new_stands lawful agree = record {
+  view db f after stands new_allowed lawful agree = record {
     gone_attributes = [];
     come_attributes = attributes_for after (record nothing { views = made ∷ [] });
     gone_trees = [];
@@ -41,21 +41,21 @@ module _ (info : RelInfo) (query : Query) where
     come_columns_are = columns_are after (record nothing { views = made ∷ [] });
     gone_parts_are = refl;
     come_parts_are = parts_are after (record nothing { views = made ∷ [] });
-    entries = moved_three same_file told_entries.itself told_entries.turned
-        (relations_same f after db (change.View info query) stands new_stands agree (λ r at. at) (λ r. refl))
-        (moved_in same_file told_entries.itself told_entries.turned (view_entry f) (view_entry after) db.views by_key made (tied_itself key_total made.info.key) (view_entries after (laid db (change.View info query)) new_stands) fresh
-        (λ v at. view_stays f after db (change.View info query) stands new_stands agree v at (kept v at)))
-        (indexes_same f after db (change.View info query) stands new_stands agree (λ x at. at)) (entries_are_apart f db stands) (entries_are_apart after (laid db (change.View info query)) new_stands);
-    columns = moved_three same_owner told_attributes.itself told_attributes.turned
-        (relation_attributes_same f after db (change.View info query) stands new_stands agree (λ r at. at))
-        (moved_in same_owner told_attributes.itself told_attributes.turned (λ (v : View). attributes f v.info) (λ (v : View). attributes after v.info) db.views by_key made (tied_itself key_total made.info.key) (view_attributes after (laid db (change.View info query)) new_stands) fresh
-        (λ v at. view_attributes_stay f after db (change.View info query) stands new_stands agree v at (kept v at)))
-        (index_attributes_same f after db (change.View info query) stands new_stands agree (λ x at. at)) (attributes_are_apart f db stands) (attributes_are_apart after (laid db (change.View info query)) new_stands);
-    trees = moved_three same_tree told_trees.itself told_trees.turned
-        (moved_in same_tree told_trees.itself told_trees.turned (view_tree f) (view_tree after) db.views by_key made (tied_itself key_total made.info.key) (view_trees after (laid db (change.View info query)) new_stands) fresh
-        (λ v at. view_tree_stays f after db (change.View info query) stands new_stands agree v at (kept v at)))
-        (rule_trees_same f after db (change.View info query) stands new_stands agree (λ p at. at))
-        (permit_trees_same f after db (change.View info query) stands new_stands agree (λ p at. at)) (trees_are_apart f db stands) (trees_are_apart after (laid db (change.View info query)) new_stands);
+    entries = moved_three same_file grouped_entries.itself grouped_entries.turned
+        (relations_same f after db (change.View info query) stands new_allowed agree (λ r at. at) (λ r. refl))
+        (moved_in same_file grouped_entries.itself grouped_entries.turned (view_entry f) (view_entry after) db.views by_key made (tied_itself key_total made.info.key) (view_entries after (laid db (change.View info query)) new_allowed) fresh
+        (λ v at. view_stays f after db (change.View info query) stands new_allowed agree v at (kept v at)))
+        (indexes_same f after db (change.View info query) stands new_allowed agree (λ x at. at)) (entries_are_apart f db stands) (entries_are_apart after (laid db (change.View info query)) new_allowed);
+    columns = moved_three same_owner grouped_attributes.itself grouped_attributes.turned
+        (relation_attributes_same f after db (change.View info query) stands new_allowed agree (λ r at. at))
+        (moved_in same_owner grouped_attributes.itself grouped_attributes.turned (λ (v : View). attributes f v.info) (λ (v : View). attributes after v.info) db.views by_key made (tied_itself key_total made.info.key) (view_attributes after (laid db (change.View info query)) new_allowed) fresh
+        (λ v at. view_attributes_stay f after db (change.View info query) stands new_allowed agree v at (kept v at)))
+        (index_attributes_same f after db (change.View info query) stands new_allowed agree (λ x at. at)) (attributes_are_apart f db stands) (attributes_are_apart after (laid db (change.View info query)) new_allowed);
+    trees = moved_three same_tree grouped_trees.itself grouped_trees.turned
+        (moved_in same_tree grouped_trees.itself grouped_trees.turned (view_tree f) (view_tree after) db.views by_key made (tied_itself key_total made.info.key) (view_trees after (laid db (change.View info query)) new_allowed) fresh
+        (λ v at. view_tree_stays f after db (change.View info query) stands new_allowed agree v at (kept v at)))
+        (rule_trees_same f after db (change.View info query) stands new_allowed agree (λ p at. at))
+        (permit_trees_same f after db (change.View info query) stands new_allowed agree (λ p at. at)) (trees_are_apart f db stands) (trees_are_apart after (laid db (change.View info query)) new_allowed);
   }
     where
       fresh : (v : View) → IsIn v db.views → by_key made v ≡ Equal → ⊥

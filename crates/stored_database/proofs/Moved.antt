@@ -10,7 +10,7 @@ use Rattle.std.specs.declared.cmp.Ordering.{Ordering}
 use Rattle.std.specs.declared.cmp.Ordering.TheVariants.{Less, Equal, Greater}
 use Rattle.std.proofs.lemmas.Cmp.{tied_itself, tied_back}
 use Rattle.page_chain.specs.Lists.{when, in_order, once}
-use Rattle.stored_database.proofs.Groups.{Told, groups_apart}
+use Rattle.stored_database.proofs.Groups.{Grouped, groups_apart}
 use Rattle.stored_database.proofs.Members.{IsIn, Apart, of_all, all_of, in_first, in_second, in_either, in_filter, filter_in, in_flat_map, flat_map_in, apart_same}
 use Rattle.stored_database.proofs.Pairs.{Pairs, pairs_apart, pairs_append, pairs_filter}
 use Rattle.stored_database.proofs.Reading.{together}
@@ -146,24 +146,24 @@ once_lying {A} {cmp} order test set come come_apart differ lying is =
       | inr k ↦ in_second (filter test lying) come a k
     ])
 
-module _ {X A : Type 0} {cmp : A → A → Ordering} {g : X → List A} {p : X → A → Bool} {same : X → X → Bool} (told : Told cmp g p same)
+module _ {X A : Type 0} {cmp : A → A → Ordering} {g : X → List A} {p : X → A → Bool} {same : X → X → Bool} (grouped : Grouped cmp g p same)
     (olds gone come news : List X) (moved : Moved same olds gone come news)
     (olds_differ : Pairs (λ x y. same x y ≡ false) olds) (news_differ : Pairs (λ x y. same x y ≡ false) news) where
   exact_olds : IsExact cmp (flat_map g olds)
-  exact_olds = exact_of told.order (flat_map g olds) (groups_apart told olds olds_differ)
+  exact_olds = exact_of grouped.order (flat_map g olds) (groups_apart grouped olds olds_differ)
 
   exact_news : IsExact cmp (flat_map g news)
-  exact_news = exact_of told.order (flat_map g news) (groups_apart told news news_differ)
+  exact_news = exact_of grouped.order (flat_map g news) (groups_apart grouped news news_differ)
 
   kept : A → Bool
   kept = stays cmp (flat_map g gone)
 
   -- what an item gives tells the item
-  tells : (x y : X) (a : A) → IsIn a (g y) → p x a ≡ same x y
-  tells x y a at = of_all (λ a. p x a ≡ same x y) (g y) a (told.tests x y) at
+  same_group : (x y : X) (a : A) → IsIn a (g y) → p x a ≡ same x y
+  same_group x y a at = of_all (λ a. p x a ≡ same x y) (g y) a (grouped.tests x y) at
 
   one_item : (x y : X) → IsIn x olds → IsIn y olds → same x y ≡ true → x ≡ y
-  one_item x y at bt e = apart_same same (λ a b e. told.turned b a ∙ e) olds x y (pairs_apart same olds olds_differ) at bt e
+  one_item x y at bt e = apart_same same (λ a b e. grouped.turned b a ∙ e) olds x y (pairs_apart same olds olds_differ) at bt e
 
   -- what an item that stays gives, stays
   stays_there : (x : X) (a : A) → IsIn x olds → (IsIn x gone → ⊥) → IsIn a (g x) → kept a ≡ true
@@ -174,7 +174,7 @@ module _ {X A : Type 0} {cmp : A → A → Ordering} {g : X → List A} {p : X �
       go b s false e = refl
       go b s true e =
           let y = s.0 in
-          let same_xy : same y x ≡ true = sym (tells y x a it) ∙ sym (told.equals y b a e) ∙ tells y y b s.2 ∙ told.itself y in
+          let same_xy : same y x ≡ true = sym (same_group y x a it) ∙ sym (grouped.equals y b a e) ∙ same_group y y b s.2 ∙ grouped.itself y in
           absurd (not_gone (subst (λ x. IsIn x gone) (one_item y x (moved.goes y s.1) at same_xy) s.1))
 
   to : (a : A) → IsIn a (in_order cmp (flat_map g news)) → IsIn a (filter kept (in_order cmp (flat_map g olds)) ++ flat_map g come)
@@ -198,7 +198,7 @@ module _ {X A : Type 0} {cmp : A → A → Ordering} {g : X → List A} {p : X �
     where
       was : kept a ≡ true → (x : X) × IsIn x olds × IsIn a (g x) → IsIn a (in_order cmp (flat_map g news))
       was stays s = elim (moved.stay_or_go s.0 s.1) [
-        | inl k ↦ absurd (true≢false (sym stays ∙ some_any (λ b. is_eq (cmp b a)) (flat_map g gone) a (in_flat_map g gone s.0 a k s.2) (ap is_eq (tied_itself told.order a))))
+        | inl k ↦ absurd (true≢false (sym stays ∙ some_any (λ b. is_eq (cmp b a)) (flat_map g gone) a (in_flat_map g gone s.0 a k s.2) (ap is_eq (tied_itself grouped.order a))))
         | inr k ↦ in_news s.0 a k s.2
       ]
 
@@ -206,7 +206,7 @@ module _ {X A : Type 0} {cmp : A → A → Ordering} {g : X → List A} {p : X �
   pub set_after : in_order cmp (flat_map g news) ≡ after_change cmp (flat_map g gone) (flat_map g come) (in_order cmp (flat_map g olds))
   unfolding kept
   set_after =
-      set_is told.order (in_order cmp (flat_map g news)) (filter kept (in_order cmp (flat_map g olds)) ++ flat_map g come) (sorted_in_order told.order (flat_map g news)) to from
+      set_is grouped.order (in_order cmp (flat_map g news)) (filter kept (in_order cmp (flat_map g olds)) ++ flat_map g come) (sorted_in_order grouped.order (flat_map g news)) to from
 
   -- ---- the rows that lie somewhere
 
@@ -216,12 +216,12 @@ module _ {X A : Type 0} {cmp : A → A → Ordering} {g : X → List A} {p : X �
   across a b at stays bt = go (flat_map_in g olds a (in_order_in cmp (flat_map g olds) a at)) (flat_map_in g come b bt) (is_eq (cmp a b)) refl
     where
       not_gone : (x : X) → IsIn a (g x) → IsIn x gone → ⊥
-      not_gone x it k = true≢false (sym stays ∙ some_any (λ b. is_eq (cmp b a)) (flat_map g gone) a (in_flat_map g gone x a k it) (ap is_eq (tied_itself told.order a)))
+      not_gone x it k = true≢false (sym stays ∙ some_any (λ b. is_eq (cmp b a)) (flat_map g gone) a (in_flat_map g gone x a k it) (ap is_eq (tied_itself grouped.order a)))
 
       apart : (x y : X) → IsIn x olds → IsIn y come → IsIn a (g x) → same x y ≡ true → IsIn x gone ⊎ IsIn x news → ⊥
       apart x y i k it e (inl gone) = not_gone x it gone
       apart x y i k it e (inr new) =
-          let is_one : x ≡ y = apart_same same (λ a b e. told.turned b a ∙ e) news x y (pairs_apart same news news_differ) new (moved.comes y k) e in
+          let is_one : x ≡ y = apart_same same (λ a b e. grouped.turned b a ∙ e) news x y (pairs_apart same news news_differ) new (moved.comes y k) e in
           not_gone x it (moved.comes_new x (subst (λ z. IsIn z come) (sym is_one) k) i)
 
       go : (x : X) × IsIn x olds × IsIn a (g x) → (y : X) × IsIn y come × IsIn b (g y) → (t : Bool) → is_eq (cmp a b) ≡ t → t ≡ false
@@ -229,7 +229,7 @@ module _ {X A : Type 0} {cmp : A → A → Ordering} {g : X → List A} {p : X �
       go s u true e =
           let x = s.0 in
           let y = u.0 in
-          let same_xy : same x y ≡ true = sym (tells x y b u.2) ∙ sym (told.equals x a b e) ∙ tells x x a s.2 ∙ told.itself x in
+          let same_xy : same x y ≡ true = sym (same_group x y b u.2) ∙ sym (grouped.equals x a b e) ∙ same_group x x a s.2 ∙ grouped.itself x in
           absurd (apart x y s.1 u.1 s.2 same_xy (moved.stay_or_go x s.1))
 
   -- what goes is there, and what comes is new
@@ -239,7 +239,7 @@ module _ {X A : Type 0} {cmp : A → A → Ordering} {g : X → List A} {p : X �
     are_there = all_of (Contains (in_order cmp (flat_map g olds))) (flat_map g gone) (λ a at. (
         let s = flat_map_in g gone a at in
         contained (in_order cmp (flat_map g olds)) a (in_in_order cmp (flat_map g olds) a exact_olds (in_flat_map g olds s.0 a (moved.goes s.0 s.1) s.2))));
-    listed_once = differ_of (λ a b. is_eq (cmp a b)) (flat_map g gone) (groups_apart told gone moved.gone_differ);
-    in_any_order = λ lying now is turned. once_moved told.order (filter kept lying ++ flat_map g come) now (in_order cmp (filter kept (in_order cmp (flat_map g olds)) ++ flat_map g come)) turned
-        (once_lying told.order kept (in_order cmp (flat_map g olds)) (flat_map g come) (groups_apart told come moved.come_differ) across lying is);
+    listed_once = differ_of (λ a b. is_eq (cmp a b)) (flat_map g gone) (groups_apart grouped gone moved.gone_differ);
+    in_any_order = λ lying now is turned. once_moved grouped.order (filter kept lying ++ flat_map g come) now (in_order cmp (filter kept (in_order cmp (flat_map g olds)) ++ flat_map g come)) turned
+        (once_lying grouped.order kept (in_order cmp (flat_map g olds)) (flat_map g come) (groups_apart grouped come moved.come_differ) across lying is);
   }

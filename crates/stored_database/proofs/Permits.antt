@@ -12,7 +12,7 @@ use Rattle.calculus.specs.Keys.{same_key, numbered_cmp}
 use Rattle.calculus.specs.Lists.{has_number, insert_by}
 use Rattle.stored_database.specs.Printed.{entries_for}
 use Rattle.stored_database.proofs.Members.{IsIn}
-use Rattle.stored_database.proofs.PrintedTrees.{parts_are, trees_for, same_tree, told_trees, permit_tree}
+use Rattle.stored_database.proofs.PrintedTrees.{parts_are, trees_for, same_tree, grouped_trees, permit_tree}
 use Rattle.stored_database.proofs.Sets.{in_insert}
 use Rattle.stored_database.specs.ChangeLaws.{resizes}
 use Rattle.stored_database.specs.Moves.{going, coming, nothing, dropped_permits}
@@ -28,7 +28,7 @@ module _ (rel : RelKey) (made : Permit) where
 
   pub permit : Moves (change.Permit rel made)
   unfolding laid going coming entries_for adds_what_is_new resizes
-  permit db f after stands new_stands lawful agree = record {
+  permit db f after stands new_allowed lawful agree = record {
     gone_attributes = [];
     come_attributes = attributes_for after (record nothing { permits = (rel, made) ∷ [] });
     gone_trees = [];
@@ -37,14 +37,14 @@ module _ (rel : RelKey) (made : Permit) where
     come_columns_are = columns_are after (record nothing { permits = (rel, made) ∷ [] });
     gone_parts_are = refl;
     come_parts_are = parts_are after (record nothing { permits = (rel, made) ∷ [] });
-    entries = entries_same f after db (change.Permit rel made) stands new_stands agree (λ r at. at) (λ r. refl) (λ v at. at) (λ x at. at) (entries_are_apart after (laid db (change.Permit rel made)) new_stands);
-    columns = attributes_same f after db (change.Permit rel made) stands new_stands agree (λ r at. at) (λ v at. at) (λ x at. at) (attributes_are_apart after (laid db (change.Permit rel made)) new_stands);
-    trees = moved_three same_tree told_trees.itself told_trees.turned
-        (view_trees_same f after db (change.Permit rel made) stands new_stands agree (λ v at. at))
-        (rule_trees_same f after db (change.Permit rel made) stands new_stands agree (λ p at. at))
-        (moved_in same_tree told_trees.itself told_trees.turned (permit_tree f) (permit_tree after) db.permits by_number (rel, made) (tied_itself (numbered_total (λ (p : Permit). p.number)) (rel, made)) (permit_trees after (laid db (change.Permit rel made)) new_stands) fresh
-        (λ p at. permit_tree_stays f after db (change.Permit rel made) stands new_stands agree p at (kept p at)))
-        (trees_are_apart f db stands) (trees_are_apart after (laid db (change.Permit rel made)) new_stands);
+    entries = entries_same f after db (change.Permit rel made) stands new_allowed agree (λ r at. at) (λ r. refl) (λ v at. at) (λ x at. at) (entries_are_apart after (laid db (change.Permit rel made)) new_allowed);
+    columns = attributes_same f after db (change.Permit rel made) stands new_allowed agree (λ r at. at) (λ v at. at) (λ x at. at) (attributes_are_apart after (laid db (change.Permit rel made)) new_allowed);
+    trees = moved_three same_tree grouped_trees.itself grouped_trees.turned
+        (view_trees_same f after db (change.Permit rel made) stands new_allowed agree (λ v at. at))
+        (rule_trees_same f after db (change.Permit rel made) stands new_allowed agree (λ p at. at))
+        (moved_in same_tree grouped_trees.itself grouped_trees.turned (permit_tree f) (permit_tree after) db.permits by_number (rel, made) (tied_itself (numbered_total (λ (p : Permit). p.number)) (rel, made)) (permit_trees after (laid db (change.Permit rel made)) new_allowed) fresh
+        (λ p at. permit_tree_stays f after db (change.Permit rel made) stands new_allowed agree p at (kept p at)))
+        (trees_are_apart f db stands) (trees_are_apart after (laid db (change.Permit rel made)) new_allowed);
   }
     where
       fresh : (p : RelKey × Permit) → IsIn p db.permits → by_number (rel, made) p ≡ Equal → ⊥
@@ -56,7 +56,7 @@ module _ (rel : RelKey) (made : Permit) where
 module _ (rel : RelKey) (numbers : List ℕ) where
   pub permits_dropped : Moves (change.DropPermits rel numbers)
   unfolding laid going coming entries_for resizes
-  permits_dropped db f after stands new_stands lawful agree = record {
+  permits_dropped db f after stands new_allowed lawful agree = record {
     gone_attributes = attributes_for f (dropped_permits rel numbers db);
     come_attributes = [];
     gone_trees = trees_for f (dropped_permits rel numbers db);
@@ -65,12 +65,12 @@ module _ (rel : RelKey) (numbers : List ℕ) where
     come_columns_are = refl;
     gone_parts_are = parts_are f (dropped_permits rel numbers db);
     come_parts_are = refl;
-    entries = entries_same f after db (change.DropPermits rel numbers) stands new_stands agree (λ r at. at) (λ r. refl) (λ v at. at) (λ x at. at) (entries_are_apart after (laid db (change.DropPermits rel numbers)) new_stands);
-    columns = attributes_same f after db (change.DropPermits rel numbers) stands new_stands agree (λ r at. at) (λ v at. at) (λ x at. at) (attributes_are_apart after (laid db (change.DropPermits rel numbers)) new_stands);
-    trees = moved_three same_tree told_trees.itself told_trees.turned
-        (view_trees_same f after db (change.DropPermits rel numbers) stands new_stands agree (λ v at. at))
-        (rule_trees_same f after db (change.DropPermits rel numbers) stands new_stands agree (λ p at. at))
-        (moved_out same_tree told_trees.itself told_trees.turned (permit_tree f) (permit_tree after) db.permits (λ p. same_key p.0 rel && has_number numbers p.1.number) (permit_trees f db stands)
-        (λ p at off. permit_tree_stays f after db (change.DropPermits rel numbers) stands new_stands agree p at (among_rest (λ p. same_key p.0 rel && has_number numbers p.1.number) db.permits p at off)))
-        (trees_are_apart f db stands) (trees_are_apart after (laid db (change.DropPermits rel numbers)) new_stands);
+    entries = entries_same f after db (change.DropPermits rel numbers) stands new_allowed agree (λ r at. at) (λ r. refl) (λ v at. at) (λ x at. at) (entries_are_apart after (laid db (change.DropPermits rel numbers)) new_allowed);
+    columns = attributes_same f after db (change.DropPermits rel numbers) stands new_allowed agree (λ r at. at) (λ v at. at) (λ x at. at) (attributes_are_apart after (laid db (change.DropPermits rel numbers)) new_allowed);
+    trees = moved_three same_tree grouped_trees.itself grouped_trees.turned
+        (view_trees_same f after db (change.DropPermits rel numbers) stands new_allowed agree (λ v at. at))
+        (rule_trees_same f after db (change.DropPermits rel numbers) stands new_allowed agree (λ p at. at))
+        (moved_out same_tree grouped_trees.itself grouped_trees.turned (permit_tree f) (permit_tree after) db.permits (λ p. same_key p.0 rel && has_number numbers p.1.number) (permit_trees f db stands)
+        (λ p at off. permit_tree_stays f after db (change.DropPermits rel numbers) stands new_allowed agree p at (among_rest (λ p. same_key p.0 rel && has_number numbers p.1.number) db.permits p at off)))
+        (trees_are_apart f db stands) (trees_are_apart after (laid db (change.DropPermits rel numbers)) new_allowed);
   }

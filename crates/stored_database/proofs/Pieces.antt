@@ -60,10 +60,10 @@ pieces_cut (suc most) (b ∷ bytes) h some = go (drop 900 (b ∷ bytes)) refl mo
 
 -- ---- parts
 
-pub parts_tell : (m s n file sort number place : ℕ) (ps : List (List ℕ)) → AllByRecursion (λ p. is_part_of m s n p ≡ ((file == m) && ((sort == s) && (number == n)))) (parts_from file sort number place ps)
+pub parts_decide : (m s n file sort number place : ℕ) (ps : List (List ℕ)) → AllByRecursion (λ p. is_part_of m s n p ≡ ((file == m) && ((sort == s) && (number == n)))) (parts_from file sort number place ps)
 unfolding parts_from
-parts_tell m s n file sort number place [] = tt
-parts_tell m s n file sort number place (p ∷ ps) = (refl, parts_tell m s n file sort number (suc place) ps)
+parts_decide m s n file sort number place [] = tt
+parts_decide m s n file sort number place (p ∷ ps) = (refl, parts_decide m s n file sort number (suc place) ps)
 
 parts_behind : (file sort number place later : ℕ) (b : List ℕ) (ps : List (List ℕ)) → place < later
     → AllByRecursion (λ p. part_cmp (record { file = file; sort = sort; number = number; place = place; bytes = b }) p ≡ Less) (parts_from file sort number later ps)

@@ -19,7 +19,7 @@ use Rattle.stored_database.specs.Printed.{Files, columns_from, columns_for, prin
 use Rattle.stored_database.specs.Spelled.{entry_is, attrs_of, columns_stand}
 use Rattle.stored_database.proofs.Pairs.{all_then, all_flat, all_pass}
 use Rattle.stored_database.proofs.InOrder.{all_in_order}
-use Rattle.stored_database.proofs.Groups.{Told, groups_found}
+use Rattle.stored_database.proofs.Groups.{Grouped, groups_found}
 use Rattle.stored_database.proofs.Orders.{column_total}
 use Rattle.stored_database.proofs.PrintedEntries.{nat_equal, nat_less, equal_turned, infos_differ}
 use Rattle.stored_database.proofs.Reading.{number_itself}
@@ -38,10 +38,10 @@ then_equal Greater p e = absurd (true≢false (sym e))
 
 -- ---- the columns of a file
 
-pub columns_tell : (n file place : ℕ) (attrs : List Attr) → AllByRecursion (λ (c : Column). (c.file == n) ≡ (file == n)) (columns_from file place attrs)
+pub columns_decide : (n file place : ℕ) (attrs : List Attr) → AllByRecursion (λ (c : Column). (c.file == n) ≡ (file == n)) (columns_from file place attrs)
 unfolding columns_from
-columns_tell n file place [] = tt
-columns_tell n file place (a ∷ attrs) = (refl, columns_tell n file (suc place) attrs)
+columns_decide n file place [] = tt
+columns_decide n file place (a ∷ attrs) = (refl, columns_decide n file (suc place) attrs)
 
 columns_behind : (file place later : ℕ) (a : Attr) (attrs : List Attr) → place < later
     → AllByRecursion (λ c. column_cmp (record { file = file; place = place; attr = a }) c ≡ Less) (columns_from file later attrs)
@@ -82,10 +82,10 @@ module _ (f : Files) where
   columns_at i = columns_from (f.file i.key) 0 i.attrs
 
   -- the columns of each entry, by its file
-  told_columns : Told column_cmp columns_at (λ i c. c.file == f.file i.key) (λ i j. f.file j.key == f.file i.key)
-  told_columns = record {
+  grouped_columns : Grouped column_cmp columns_at (λ i c. c.file == f.file i.key) (λ i j. f.file j.key == f.file i.key)
+  grouped_columns = record {
     order = column_total;
-    tests = λ i j. columns_tell (f.file i.key) (f.file j.key) 0 j.attrs;
+    tests = λ i j. columns_decide (f.file i.key) (f.file j.key) 0 j.attrs;
     equals = λ i a b e. ap (λ n. n == f.file i.key) (nat_equal a.file b.file (then_equal (nat_cmp a.file b.file) (nat_cmp a.place b.place) e).0);
     itself = λ i. number_itself (f.file i.key);
     turned = λ i j. equal_turned (f.file j.key) (f.file i.key);
@@ -99,7 +99,7 @@ module _ (f : Files) where
     attrs_at =
         all_then (λ i. filter (λ (c : Column). c.file == f.file i.key) (in_order column_cmp (flat_map columns_at (entries db))) ≡ columns_at i) (λ i. attrs_of (printed db f) (f.file i.key) ≡ Some i.attrs) (entries db)
         (λ i is. ap (λ (l : List Column). when (are_from (λ c. c.place) 0 l) (map (λ c. c.attr) l)) is ∙ ap₂ when (columns_count (f.file i.key) 0 i.attrs) (columns_hold (f.file i.key) 0 i.attrs))
-        (groups_found told_columns (entries db) (infos_differ f db differ))
+        (groups_found grouped_columns (entries db) (infos_differ f db differ))
 
     -- the columns stand, where the entry of each that has attributes is no index
     pub columns_do_stand : AllByRecursion (λ i. AllByRecursion (λ (c : Column). entry_is (λ s. not (is_index s)) (printed db f) c.file ≡ true) (columns_at i)) (entries db) → columns_stand (printed db f) ≡ true

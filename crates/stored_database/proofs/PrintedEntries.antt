@@ -16,7 +16,7 @@ use Rattle.stored_database.specs.Printed.{Files, relation_entry, view_entry, ind
 use Rattle.stored_database.specs.Spelled.{entry_at}
 use Rattle.stored_database.proofs.Pairs.{Pairs, all_then, all_front, all_behind, all_unmap, pairs_then, pairs_unmap, differ_pairs}
 use Rattle.stored_database.proofs.InOrder.{NoneEqual}
-use Rattle.stored_database.proofs.Groups.{Told, groups_apart, groups_found, find_one}
+use Rattle.stored_database.proofs.Groups.{Grouped, groups_apart, groups_found, find_one}
 use Rattle.stored_database.proofs.Orders.{entry_total}
 use Rattle.stored_database.proofs.Reading.{number_itself}
 
@@ -40,9 +40,9 @@ equal_turned m n = nat_eq_equiv.symm m n
 -- ---- entries
 
 -- each entry alone, by its file
-pub told_entries : Told entry_cmp (λ e. e ∷ []) (λ (e a : Entry). a.file == e.file) (λ (e a : Entry). a.file == e.file)
+pub grouped_entries : Grouped entry_cmp (λ e. e ∷ []) (λ (e a : Entry). a.file == e.file) (λ (e a : Entry). a.file == e.file)
 unfolding IsStrictlySortedBy
-told_entries = record {
+grouped_entries = record {
   order = entry_total;
   tests = λ x y. (refl, tt);
   equals = λ x a b e. ap (λ n. n == x.file) (nat_equal a.file b.file e);
@@ -84,7 +84,7 @@ module _ (f : Files) where
         (differ_pairs nat_eq _ (ap (differ_by nat_eq) (file_numbers db) ∙ differ)))
 
     pub entries_apart : NoneEqual entry_cmp (entries_for f db)
-    entries_apart = subst (NoneEqual entry_cmp) (singles (entries_for f db)) (groups_apart told_entries (entries_for f db) entries_differ)
+    entries_apart = subst (NoneEqual entry_cmp) (singles (entries_for f db)) (groups_apart grouped_entries (entries_for f db) entries_differ)
 
     -- each entry is found by its file
     pub entries_at : AllByRecursion (λ e. entry_at (printed db f) e.file ≡ Some e) (entries_for f db)
@@ -92,7 +92,7 @@ module _ (f : Files) where
     entries_at =
         all_then (λ e. filter (λ (a : Entry). a.file == e.file) (in_order entry_cmp (flat_map (λ x. x ∷ []) (entries_for f db))) ≡ e ∷ []) (λ e. find (λ a. a.file == e.file) (in_order entry_cmp (entries_for f db)) ≡ Some e) (entries_for f db)
         (λ e is. find_one (λ (a : Entry). a.file == e.file) e (in_order entry_cmp (entries_for f db)) (subst (λ es. filter (λ (a : Entry). a.file == e.file) (in_order entry_cmp es) ≡ e ∷ []) (singles (entries_for f db)) is))
-        (groups_found told_entries (entries_for f db) entries_differ)
+        (groups_found grouped_entries (entries_for f db) entries_differ)
 
     pub relations_at : AllByRecursion (λ r. entry_at (printed db f) (f.file r.info.key) ≡ Some (relation_entry f r)) db.relations
     unfolding entries_for

@@ -12,7 +12,7 @@ use Rattle.calculus.specs.declared.schema.RelInfo.{RelInfo}
 use Rattle.calculus.specs.declared.schema.Spec.{Spec}
 use Rattle.calculus.specs.declared.schema.Spec.TheVariants.{Heap, Hash, Isam, View, Index}
 use Rattle.calculus.specs.Database as database
-use Rattle.calculus.specs.IsDatabase.{IsDatabase, structure_stands, view_info_stands, index_stands, keys_stand}
+use Rattle.calculus.specs.IsDatabase.{IsDatabase, valid_structure, valid_view_info, valid_index, keys_stand}
 use Rattle.calculus.specs.Keys.{key_cmp}
 use Rattle.calculus.specs.Lists.{is_any}
 use Rattle.calculus.specs.Stored.{attrs_at}
@@ -54,7 +54,7 @@ mapped_fail test h xs all = filter_fail test (map h xs) (all_map (λ y. test y �
 
 -- ---- what stands in a database
 
-structure_is : (info : RelInfo) → structure_stands info ≡ true → is_structure info.spec ≡ true
+structure_is : (info : RelInfo) → valid_structure info ≡ true → is_structure info.spec ≡ true
 structure_is info e = go info.spec (is_any info.keys && keys_stand info.attrs info.keys) (not (is_any info.keys)) e
   where
     go : (s : Spec) (a b : Bool) → (elim (is_keyed s) as (λ t. Bool) [ true ↦ a | false ↦ is_structure s && b ]) ≡ true → is_structure s ≡ true
@@ -97,23 +97,23 @@ no_attrs (a ∷ attrs) e = absurd (true≢false (sym e))
 
 module _ (db : database.Db) (d : IsDatabase db) where
   pub relation_kinds : AllByRecursion (λ r. Kinds r.info.spec true false false) db.relations
-  relation_kinds = go db.relations (pass_all (λ r. structure_stands r.info) db.relations d.structures_stand)
+  relation_kinds = go db.relations (pass_all (λ r. valid_structure r.info) db.relations d.structures_stand)
     where
-      go : (rs : List database.Relation) → AllByRecursion (λ r. structure_stands r.info ≡ true) rs → AllByRecursion (λ r. Kinds r.info.spec true false false) rs
+      go : (rs : List database.Relation) → AllByRecursion (λ r. valid_structure r.info ≡ true) rs → AllByRecursion (λ r. Kinds r.info.spec true false false) rs
       go [] all = tt
       go (r ∷ rs) all = (structure_kinds r.info.spec (structure_is r.info all.0), go rs all.1)
 
   pub viewed_kinds : AllByRecursion (λ v. Kinds v.info.spec false true false) db.views
-  viewed_kinds = go db.views (pass_all (λ v. view_info_stands v.info) db.views d.view_infos_stand)
+  viewed_kinds = go db.views (pass_all (λ v. valid_view_info v.info) db.views d.view_infos_stand)
     where
-      go : (vs : List database.View) → AllByRecursion (λ v. view_info_stands v.info ≡ true) vs → AllByRecursion (λ v. Kinds v.info.spec false true false) vs
+      go : (vs : List database.View) → AllByRecursion (λ v. valid_view_info v.info ≡ true) vs → AllByRecursion (λ v. Kinds v.info.spec false true false) vs
       go [] all = tt
       go (v ∷ vs) all = (view_kinds v.info.spec (and_parts (is_view v.info.spec) (not (is_any v.info.keys)) all.0).0, go vs all.1)
 
   pub indexed_kinds : AllByRecursion (λ x. Kinds x.info.spec false false true × (database.is_relation db x.base ≡ true) × (x.info.attrs ≡ [])) db.indexes
-  indexed_kinds = go db.indexes (pass_all (index_stands db) db.indexes d.indexes_stand)
+  indexed_kinds = go db.indexes (pass_all (valid_index db) db.indexes d.indexes_stand)
     where
-      go : (xs : List database.Index) → AllByRecursion (λ x. index_stands db x ≡ true) xs → AllByRecursion (λ x. Kinds x.info.spec false false true × (database.is_relation db x.base ≡ true) × (x.info.attrs ≡ [])) xs
+      go : (xs : List database.Index) → AllByRecursion (λ x. valid_index db x ≡ true) xs → AllByRecursion (λ x. Kinds x.info.spec false false true × (database.is_relation db x.base ≡ true) × (x.info.attrs ≡ [])) xs
       go [] all = tt
       go (x ∷ xs) all =
           let keyed = is_any x.info.keys && keys_stand (attrs_at db x.base) x.info.keys in

@@ -12,7 +12,7 @@ use Rattle.calculus.specs.declared.schema.Spec.{Spec}
 use Rattle.calculus.specs.declared.schema.Spec.TheVariants.{Heap, Hash, Isam, View, Index}
 use Rattle.calculus.specs.Catalogue.{catalogue_at}
 use Rattle.calculus.specs.Database as database
-use Rattle.calculus.specs.IsDatabase.{IsDatabase, key_is_named, attrs_stand, keys_stand, structure_stands, view_info_stands, index_stands, is_kind, row_qual_stands, permit_stands}
+use Rattle.calculus.specs.IsDatabase.{IsDatabase, key_is_named, attrs_stand, keys_stand, valid_structure, valid_view_info, valid_index, is_kind, valid_row_qual, valid_permit}
 use Rattle.calculus.specs.Keys.{same_key}
 use Rattle.calculus.specs.Limits.{greatest_number, most_attributes, most_keys}
 use Rattle.calculus.specs.Lists.{is_any, differ_by}
@@ -207,18 +207,18 @@ module _ (f : Files) (db : database.Db) (is_one : IsDatabase db) (may : MayHave 
 
   relation_stands : (r : database.Relation) → IsIn r db.relations → is_entry (relation_entry f r) ≡ true
   relation_stands r at =
-      let k = relation_keys r.info.spec r.info.attrs r.info.keys (few_attrs r.info.attrs (relation_attrs r at)) (of_tests (λ r. structure_stands r.info) db.relations r is_one.structures_stand at) in
+      let k = relation_keys r.info.spec r.info.attrs r.info.keys (few_attrs r.info.attrs (relation_attrs r at)) (of_tests (λ r. valid_structure r.info) db.relations r is_one.structures_stand at) in
       let u = both (nat_le 1 (f.used r.info.key)) (is_number32 (f.used r.info.key)) (of_tests (λ r. nat_le 1 (f.used r.info.key) && is_number32 (f.used r.info.key)) db.relations r may.some_pages at) in
       entry_of_parts (relation_entry f r) (file_of r.info (in_relations r at)) (named r.info (in_relations r at)) refl refl refl u.1 k.1 (relation_suits r.info.spec (relation_entry f r) k.0 refl refl refl u.0)
 
   view_stands : (v : database.View) → IsIn v db.views → is_entry (view_entry f v) ≡ true
   view_stands v at =
-      let k = both (is_view v.info.spec) (not (is_any v.info.keys)) (of_tests (λ v. view_info_stands v.info) db.views v is_one.view_infos_stand at) in
+      let k = both (is_view v.info.spec) (not (is_any v.info.keys)) (of_tests (λ v. valid_view_info v.info) db.views v is_one.view_infos_stand at) in
       entry_of_parts (view_entry f v) (file_of v.info (in_views v at)) (named v.info (in_views v at)) refl refl refl refl (no_keys v.info.keys k.1) (view_suits v.info.spec (view_entry f v) k.0 refl refl refl refl k.1)
 
   index_parts : (x : database.Index) → IsIn x db.indexes → (is_index x.info.spec ≡ true) × (database.is_relation db x.base ≡ true) × (not (is_any x.info.attrs) ≡ true) × (keys_stand (attrs_at db x.base) x.info.keys ≡ true)
   index_parts x at =
-      let a = both (is_index x.info.spec) _ (of_tests (index_stands db) db.indexes x is_one.indexes_stand at) in
+      let a = both (is_index x.info.spec) _ (of_tests (valid_index db) db.indexes x is_one.indexes_stand at) in
       let b = both (database.is_relation db x.base) _ a.1 in
       let c = both (not (is_any x.info.attrs)) _ b.1 in
       let d = both (is_any x.info.keys) _ c.1 in
@@ -266,10 +266,10 @@ module _ (f : Files) (db : database.Db) (is_one : IsDatabase db) (may : MayHave 
       ]
 
   rule_file : (p : RelKey × Rule) → IsIn p db.rules → is_number32 (f.file p.0) ≡ true
-  rule_file p at = number_under p.0 (both (database.is_relation db p.0) (row_qual_stands db p.0 p.1.qual) (of_tests (λ p. database.is_relation db p.0 && row_qual_stands db p.0 p.1.qual) db.rules p is_one.rules_stand at)).0
+  rule_file p at = number_under p.0 (both (database.is_relation db p.0) (valid_row_qual db p.0 p.1.qual) (of_tests (λ p. database.is_relation db p.0 && valid_row_qual db p.0 p.1.qual) db.rules p is_one.rules_stand at)).0
 
   permit_file : (p : RelKey × Permit) → IsIn p db.permits → is_number32 (f.file p.0) ≡ true
-  permit_file p at = number_under p.0 (both (database.is_relation db p.0) _ (of_tests (λ p. permit_stands db p.0 p.1) db.permits p is_one.permits_stand at)).0
+  permit_file p at = number_under p.0 (both (database.is_relation db p.0) _ (of_tests (λ p. valid_permit db p.0 p.1) db.permits p is_one.permits_stand at)).0
 
   parts_stand : (p : Part) → IsIn p (parts_for f db) → nat_lt p.place 65536 ≡ true → is_part p ≡ true
   unfolding parts_for

@@ -25,9 +25,9 @@ use Rattle.stored_database.specs.Trees.{tree_bytes, is_part_of, joined, tree_at,
 use Rattle.stored_database.proofs.Members.{IsIn, found_in, apart_same}
 use Rattle.stored_database.proofs.Pairs.{Pairs, all_then, all_each, all_map, all_append, all_both, pairs_then, pairs_map, pairs_unmap, pairs_append, pairs_front, pairs_behind, pairs_apart}
 use Rattle.stored_database.proofs.InOrder.{NoneEqual}
-use Rattle.stored_database.proofs.Groups.{Told, groups_found, groups_apart}
+use Rattle.stored_database.proofs.Groups.{Grouped, groups_found, groups_apart}
 use Rattle.stored_database.proofs.Orders.{part_total, key_total, same_key_is}
-use Rattle.stored_database.proofs.Pieces.{parts_tell, parts_ascend, parts_join}
+use Rattle.stored_database.proofs.Pieces.{parts_decide, parts_ascend, parts_join}
 use Rattle.stored_database.proofs.PrintedColumns.{then_equal}
 use Rattle.stored_database.proofs.PrintedEntries.{nat_equal, equal_turned, infos_differ}
 use Rattle.stored_database.proofs.Reading.{number_itself, same_number}
@@ -50,10 +50,10 @@ abbrev pub same_tree : Tree → Tree → Bool
 same_tree t u = (u.file == t.file) && ((u.sort == t.sort) && (u.number == t.number))
 
 -- the parts of each tree, by where it belongs
-pub told_trees : Told part_cmp parts_of (λ t p. is_part_of t.file t.sort t.number p) same_tree
-told_trees = record {
+pub grouped_trees : Grouped part_cmp parts_of (λ t p. is_part_of t.file t.sort t.number p) same_tree
+grouped_trees = record {
   order = part_total;
-  tests = λ t u. parts_tell t.file t.sort t.number u.file u.sort u.number 0 (cut u.bytes);
+  tests = λ t u. parts_decide t.file t.sort t.number u.file u.sort u.number 0 (cut u.bytes);
   equals = λ t a b e. alike t a b e;
   itself = λ t. and_from (t.file == t.file) ((t.sort == t.sort) && (t.number == t.number)) (number_itself t.file) (and_from (t.sort == t.sort) (t.number == t.number) (number_itself t.sort) (number_itself t.number));
   turned = λ t u i. equal_turned u.file t.file i && (equal_turned u.sort t.sort i && equal_turned u.number t.number i);
@@ -174,7 +174,7 @@ module _ (f : Files) (db : Db) (differ : differ_by nat_eq (map (λ i. f.file i.k
         R t u = same_tree t u ≡ false
 
     pub parts_apart : NoneEqual part_cmp (parts_for f db)
-    parts_apart = subst (NoneEqual part_cmp) (sym (parts_are f db)) (groups_apart told_trees (trees_for f db) trees_differ)
+    parts_apart = subst (NoneEqual part_cmp) (sym (parts_are f db)) (groups_apart grouped_trees (trees_for f db) trees_differ)
 
     -- each tree is found again
     pub trees_at : AllByRecursion (λ t. 0 < length t.bytes) (trees_for f db) → AllByRecursion (λ t. tree_at (printed db f).parts t.file t.sort t.number ≡ Some t.bytes) (trees_for f db)
@@ -184,4 +184,4 @@ module _ (f : Files) (db : Db) (differ : differ_by nat_eq (map (λ i. f.file i.k
         (λ t. tree_at (in_order part_cmp (parts_for f db)) t.file t.sort t.number ≡ Some t.bytes) (trees_for f db)
         (λ t is. ap (λ ps. joined (filter (is_part_of t.file t.sort t.number) (in_order part_cmp ps))) (parts_are f db) ∙ ap joined is.1 ∙ parts_join t.file t.sort t.number t.bytes is.0)
         (all_both (λ t. 0 < length t.bytes) (λ t. filter (is_part_of t.file t.sort t.number) (in_order part_cmp (flat_map parts_of (trees_for f db))) ≡ parts_of t) (trees_for f db)
-        some (groups_found told_trees (trees_for f db) trees_differ))
+        some (groups_found grouped_trees (trees_for f db) trees_differ))

@@ -11,7 +11,7 @@ use Rattle.calculus.specs.declared.schema.RelInfo.{RelInfo}
 use Rattle.calculus.specs.declared.schema.Rule.{Rule}
 use Rattle.calculus.specs.declared.schema.Spec.{Spec}
 use Rattle.calculus.specs.Database as database
-use Rattle.calculus.specs.IsDatabase.{IsDatabase, row_qual_stands, permit_stands}
+use Rattle.calculus.specs.IsDatabase.{IsDatabase, valid_row_qual, valid_permit}
 use Rattle.calculus.specs.Keys.{key_cmp}
 use Rattle.calculus.specs.Structures.{is_structure, is_view, is_index}
 use Rattle.page_chain.specs.Lists.{◌>>=◌, when, check, in_order}
@@ -53,14 +53,14 @@ module _ (files : ℕ → Pages) (f : Files) (db : database.Db) (d : IsDatabase 
 
   rules_there : AllByRecursion (λ p. database.is_relation db p.0 ≡ true) db.rules
   rules_there =
-      all_then (λ p. (database.is_relation db p.0 && row_qual_stands db p.0 p.1.qual) ≡ true) (λ p. database.is_relation db p.0 ≡ true) db.rules
-      (λ p e. (and_parts (database.is_relation db p.0) (row_qual_stands db p.0 p.1.qual) e).0)
-      (pass_all (λ p. database.is_relation db p.0 && row_qual_stands db p.0 p.1.qual) db.rules d.rules_stand)
+      all_then (λ p. (database.is_relation db p.0 && valid_row_qual db p.0 p.1.qual) ≡ true) (λ p. database.is_relation db p.0 ≡ true) db.rules
+      (λ p e. (and_parts (database.is_relation db p.0) (valid_row_qual db p.0 p.1.qual) e).0)
+      (pass_all (λ p. database.is_relation db p.0 && valid_row_qual db p.0 p.1.qual) db.rules d.rules_stand)
 
   permits_there : AllByRecursion (λ p. database.is_relation db p.0 ≡ true) db.permits
   permits_there =
-      all_then (λ p. permit_stands db p.0 p.1 ≡ true) (λ p. database.is_relation db p.0 ≡ true) db.permits
-      (λ p e. (and_parts (database.is_relation db p.0) _ e).0) (pass_all (λ p. permit_stands db p.0 p.1) db.permits d.permits_stand)
+      all_then (λ p. valid_permit db p.0 p.1 ≡ true) (λ p. database.is_relation db p.0 ≡ true) db.permits
+      (λ p e. (and_parts (database.is_relation db p.0) _ e).0) (pass_all (λ p. valid_permit db p.0 p.1) db.permits d.permits_stand)
 
   -- the entry of a key's file
   record EntryOf (key : RelKey) : Type 0 where

@@ -14,8 +14,8 @@ use Rattle.stored_database.specs.Printed.{Files, relation_entry, view_entry, ind
 use Rattle.stored_database.specs.Trees.{tree_bytes}
 use Rattle.stored_database.proofs.Orders.{same_key_is, same_key_itself, same_key_turned}
 use Rattle.stored_database.proofs.Pairs.{differ_pairs, pairs_map, pairs_unmap}
-use Rattle.stored_database.proofs.PrintedEntries.{told_entries, equal_turned}
-use Rattle.stored_database.proofs.PrintedTrees.{parts_are, trees_for, same_tree, told_trees, view_tree, rule_tree, permit_tree}
+use Rattle.stored_database.proofs.PrintedEntries.{grouped_entries, equal_turned}
+use Rattle.stored_database.proofs.PrintedTrees.{parts_are, trees_for, same_tree, grouped_trees, view_tree, rule_tree, permit_tree}
 use Rattle.stored_database.specs.ChangeLaws.{FilesDiffer}
 use Rattle.stored_database.specs.Moves.{destroyed, rows_of}
 use Rattle.stored_database.specs.Renumbered.{DifferAt, RenumbersTheCatalogue, RenumbersRows}
@@ -23,7 +23,7 @@ use Rattle.stored_database.proofs.FilesDiffer.{pairs_in, one_key}
 use Rattle.stored_database.proofs.Lists.{moved_three, moved_again}
 use Rattle.stored_database.proofs.Moved.{differ_of}
 use Rattle.stored_database.proofs.Staying.{info_there}
-use Rattle.stored_database.proofs.Three.{attributes, attributes_for, same_file, same_owner, told_attributes, columns_are, Stands, entries_are_apart, attributes_are_apart, trees_are_apart, relation_entries, view_entries, index_entries, relation_attributes, view_attributes, index_attributes, view_trees, rule_trees, permit_trees, MovedAll, catalogue_after, rows_change}
+use Rattle.stored_database.proofs.Three.{attributes, attributes_for, same_file, same_owner, grouped_attributes, columns_are, Stands, entries_are_apart, attributes_are_apart, trees_are_apart, relation_entries, view_entries, index_entries, relation_attributes, view_attributes, index_attributes, view_trees, rule_trees, permit_trees, MovedAll, catalogue_after, rows_change}
 
 -- ---- keys
 
@@ -40,7 +40,7 @@ neither : (a b : Bool) → (a || b) ≡ false → (a ≡ false) × (b ≡ false)
 neither true b e = absurd (true≢false e)
 neither false b e = (refl, e)
 
-module _ (key : RelKey) (db : Db) (f g : Files) (stands : Stands f db) (new_stands : Stands g db) (differ : DifferAt key f g) where
+module _ (key : RelKey) (db : Db) (f g : Files) (stands : Stands f db) (new_allowed : Stands g db) (differ : DifferAt key f g) where
   -- ---- what stays
 
   relation_stays : (r : Relation) → has_key (key ∷ []) r.info.key ≡ false → relation_entry g r ≡ relation_entry f r
@@ -94,24 +94,24 @@ module _ (key : RelKey) (db : Db) (f g : Files) (stands : Stands f db) (new_stan
     come_columns_are = columns_are g (destroyed (key ∷ []) db);
     gone_parts_are = parts_are f (destroyed (key ∷ []) db);
     come_parts_are = parts_are g (destroyed (key ∷ []) db);
-    entries = moved_three same_file told_entries.itself told_entries.turned
-        (moved_again same_file told_entries.itself told_entries.turned (relation_entry f) (relation_entry g) db.relations (λ r. has_key (key ∷ []) r.info.key) (relation_entries f db stands) (relation_entries g db new_stands) (λ r at off. relation_stays r off))
-        (moved_again same_file told_entries.itself told_entries.turned (view_entry f) (view_entry g) db.views (λ v. has_key (key ∷ []) v.info.key) (view_entries f db stands) (view_entries g db new_stands) (λ v at off. view_stays v off))
-        (moved_again same_file told_entries.itself told_entries.turned (index_entry f) (index_entry g) db.indexes (λ x. has_key (key ∷ []) x.info.key || has_key (key ∷ []) x.base) (index_entries f db stands) (index_entries g db new_stands) (λ x at off. index_stays x off))
-        (entries_are_apart f db stands) (entries_are_apart g db new_stands);
-    columns = moved_three same_owner told_attributes.itself told_attributes.turned
-        (moved_again same_owner told_attributes.itself told_attributes.turned (λ (r : Relation). attributes f r.info) (λ (r : Relation). attributes g r.info) db.relations (λ r. has_key (key ∷ []) r.info.key) (relation_attributes f db stands) (relation_attributes g db new_stands)
+    entries = moved_three same_file grouped_entries.itself grouped_entries.turned
+        (moved_again same_file grouped_entries.itself grouped_entries.turned (relation_entry f) (relation_entry g) db.relations (λ r. has_key (key ∷ []) r.info.key) (relation_entries f db stands) (relation_entries g db new_allowed) (λ r at off. relation_stays r off))
+        (moved_again same_file grouped_entries.itself grouped_entries.turned (view_entry f) (view_entry g) db.views (λ v. has_key (key ∷ []) v.info.key) (view_entries f db stands) (view_entries g db new_allowed) (λ v at off. view_stays v off))
+        (moved_again same_file grouped_entries.itself grouped_entries.turned (index_entry f) (index_entry g) db.indexes (λ x. has_key (key ∷ []) x.info.key || has_key (key ∷ []) x.base) (index_entries f db stands) (index_entries g db new_allowed) (λ x at off. index_stays x off))
+        (entries_are_apart f db stands) (entries_are_apart g db new_allowed);
+    columns = moved_three same_owner grouped_attributes.itself grouped_attributes.turned
+        (moved_again same_owner grouped_attributes.itself grouped_attributes.turned (λ (r : Relation). attributes f r.info) (λ (r : Relation). attributes g r.info) db.relations (λ r. has_key (key ∷ []) r.info.key) (relation_attributes f db stands) (relation_attributes g db new_allowed)
         (λ r at off. attributes_stay r.info off))
-        (moved_again same_owner told_attributes.itself told_attributes.turned (λ (v : View). attributes f v.info) (λ (v : View). attributes g v.info) db.views (λ v. has_key (key ∷ []) v.info.key) (view_attributes f db stands) (view_attributes g db new_stands)
+        (moved_again same_owner grouped_attributes.itself grouped_attributes.turned (λ (v : View). attributes f v.info) (λ (v : View). attributes g v.info) db.views (λ v. has_key (key ∷ []) v.info.key) (view_attributes f db stands) (view_attributes g db new_allowed)
         (λ v at off. attributes_stay v.info off))
-        (moved_again same_owner told_attributes.itself told_attributes.turned (λ (x : Index). attributes f x.info) (λ (x : Index). attributes g x.info) db.indexes (λ x. has_key (key ∷ []) x.info.key || has_key (key ∷ []) x.base) (index_attributes f db stands) (index_attributes g db new_stands)
+        (moved_again same_owner grouped_attributes.itself grouped_attributes.turned (λ (x : Index). attributes f x.info) (λ (x : Index). attributes g x.info) db.indexes (λ x. has_key (key ∷ []) x.info.key || has_key (key ∷ []) x.base) (index_attributes f db stands) (index_attributes g db new_allowed)
         (λ x at off. index_attributes_stay x off))
-        (attributes_are_apart f db stands) (attributes_are_apart g db new_stands);
-    trees = moved_three same_tree told_trees.itself told_trees.turned
-        (moved_again same_tree told_trees.itself told_trees.turned (view_tree f) (view_tree g) db.views (λ v. has_key (key ∷ []) v.info.key) (view_trees f db stands) (view_trees g db new_stands) (λ v at off. view_tree_stays v off))
-        (moved_again same_tree told_trees.itself told_trees.turned (rule_tree f) (rule_tree g) db.rules (λ p. has_key (key ∷ []) p.0) (rule_trees f db stands) (rule_trees g db new_stands) (λ p at off. rule_tree_stays p off))
-        (moved_again same_tree told_trees.itself told_trees.turned (permit_tree f) (permit_tree g) db.permits (λ p. has_key (key ∷ []) p.0) (permit_trees f db stands) (permit_trees g db new_stands) (λ p at off. permit_tree_stays p off))
-        (trees_are_apart f db stands) (trees_are_apart g db new_stands);
+        (attributes_are_apart f db stands) (attributes_are_apart g db new_allowed);
+    trees = moved_three same_tree grouped_trees.itself grouped_trees.turned
+        (moved_again same_tree grouped_trees.itself grouped_trees.turned (view_tree f) (view_tree g) db.views (λ v. has_key (key ∷ []) v.info.key) (view_trees f db stands) (view_trees g db new_allowed) (λ v at off. view_tree_stays v off))
+        (moved_again same_tree grouped_trees.itself grouped_trees.turned (rule_tree f) (rule_tree g) db.rules (λ p. has_key (key ∷ []) p.0) (rule_trees f db stands) (rule_trees g db new_allowed) (λ p at off. rule_tree_stays p off))
+        (moved_again same_tree grouped_trees.itself grouped_trees.turned (permit_tree f) (permit_tree g) db.permits (λ p. has_key (key ∷ []) p.0) (permit_trees f db stands) (permit_trees g db new_allowed) (λ p at off. permit_tree_stays p off))
+        (trees_are_apart f db stands) (trees_are_apart g db new_allowed);
   }
 
 -- ---- the laws

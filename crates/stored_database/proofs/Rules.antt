@@ -12,7 +12,7 @@ use Rattle.calculus.specs.Keys.{same_key, numbered_cmp}
 use Rattle.calculus.specs.Lists.{has_number, insert_by}
 use Rattle.stored_database.specs.Printed.{entries_for}
 use Rattle.stored_database.proofs.Members.{IsIn}
-use Rattle.stored_database.proofs.PrintedTrees.{parts_are, trees_for, same_tree, told_trees, rule_tree}
+use Rattle.stored_database.proofs.PrintedTrees.{parts_are, trees_for, same_tree, grouped_trees, rule_tree}
 use Rattle.stored_database.proofs.Sets.{in_insert}
 use Rattle.stored_database.specs.ChangeLaws.{resizes}
 use Rattle.stored_database.specs.Moves.{going, coming, nothing, dropped_rules}
@@ -28,7 +28,7 @@ module _ (rel : RelKey) (made : Rule) where
 
   pub rule : Moves (change.Rule rel made)
   unfolding laid going coming entries_for adds_what_is_new resizes
-  rule db f after stands new_stands lawful agree = record {
+  rule db f after stands new_allowed lawful agree = record {
     gone_attributes = [];
     come_attributes = attributes_for after (record nothing { rules = (rel, made) ∷ [] });
     gone_trees = [];
@@ -37,14 +37,14 @@ module _ (rel : RelKey) (made : Rule) where
     come_columns_are = columns_are after (record nothing { rules = (rel, made) ∷ [] });
     gone_parts_are = refl;
     come_parts_are = parts_are after (record nothing { rules = (rel, made) ∷ [] });
-    entries = entries_same f after db (change.Rule rel made) stands new_stands agree (λ r at. at) (λ r. refl) (λ v at. at) (λ x at. at) (entries_are_apart after (laid db (change.Rule rel made)) new_stands);
-    columns = attributes_same f after db (change.Rule rel made) stands new_stands agree (λ r at. at) (λ v at. at) (λ x at. at) (attributes_are_apart after (laid db (change.Rule rel made)) new_stands);
-    trees = moved_three same_tree told_trees.itself told_trees.turned
-        (view_trees_same f after db (change.Rule rel made) stands new_stands agree (λ v at. at))
-        (moved_in same_tree told_trees.itself told_trees.turned (rule_tree f) (rule_tree after) db.rules by_number (rel, made) (tied_itself (numbered_total (λ (p : Rule). p.number)) (rel, made)) (rule_trees after (laid db (change.Rule rel made)) new_stands) fresh
-        (λ p at. rule_tree_stays f after db (change.Rule rel made) stands new_stands agree p at (kept p at)))
-        (permit_trees_same f after db (change.Rule rel made) stands new_stands agree (λ p at. at))
-        (trees_are_apart f db stands) (trees_are_apart after (laid db (change.Rule rel made)) new_stands);
+    entries = entries_same f after db (change.Rule rel made) stands new_allowed agree (λ r at. at) (λ r. refl) (λ v at. at) (λ x at. at) (entries_are_apart after (laid db (change.Rule rel made)) new_allowed);
+    columns = attributes_same f after db (change.Rule rel made) stands new_allowed agree (λ r at. at) (λ v at. at) (λ x at. at) (attributes_are_apart after (laid db (change.Rule rel made)) new_allowed);
+    trees = moved_three same_tree grouped_trees.itself grouped_trees.turned
+        (view_trees_same f after db (change.Rule rel made) stands new_allowed agree (λ v at. at))
+        (moved_in same_tree grouped_trees.itself grouped_trees.turned (rule_tree f) (rule_tree after) db.rules by_number (rel, made) (tied_itself (numbered_total (λ (p : Rule). p.number)) (rel, made)) (rule_trees after (laid db (change.Rule rel made)) new_allowed) fresh
+        (λ p at. rule_tree_stays f after db (change.Rule rel made) stands new_allowed agree p at (kept p at)))
+        (permit_trees_same f after db (change.Rule rel made) stands new_allowed agree (λ p at. at))
+        (trees_are_apart f db stands) (trees_are_apart after (laid db (change.Rule rel made)) new_allowed);
   }
     where
       fresh : (p : RelKey × Rule) → IsIn p db.rules → by_number (rel, made) p ≡ Equal → ⊥
@@ -56,7 +56,7 @@ module _ (rel : RelKey) (made : Rule) where
 module _ (rel : RelKey) (numbers : List ℕ) where
   pub rules_dropped : Moves (change.DropRules rel numbers)
   unfolding laid going coming entries_for resizes
-  rules_dropped db f after stands new_stands lawful agree = record {
+  rules_dropped db f after stands new_allowed lawful agree = record {
     gone_attributes = attributes_for f (dropped_rules rel numbers db);
     come_attributes = [];
     gone_trees = trees_for f (dropped_rules rel numbers db);
@@ -65,12 +65,12 @@ module _ (rel : RelKey) (numbers : List ℕ) where
     come_columns_are = refl;
     gone_parts_are = parts_are f (dropped_rules rel numbers db);
     come_parts_are = refl;
-    entries = entries_same f after db (change.DropRules rel numbers) stands new_stands agree (λ r at. at) (λ r. refl) (λ v at. at) (λ x at. at) (entries_are_apart after (laid db (change.DropRules rel numbers)) new_stands);
-    columns = attributes_same f after db (change.DropRules rel numbers) stands new_stands agree (λ r at. at) (λ v at. at) (λ x at. at) (attributes_are_apart after (laid db (change.DropRules rel numbers)) new_stands);
-    trees = moved_three same_tree told_trees.itself told_trees.turned
-        (view_trees_same f after db (change.DropRules rel numbers) stands new_stands agree (λ v at. at))
-        (moved_out same_tree told_trees.itself told_trees.turned (rule_tree f) (rule_tree after) db.rules (λ p. same_key p.0 rel && has_number numbers p.1.number) (rule_trees f db stands)
-        (λ p at off. rule_tree_stays f after db (change.DropRules rel numbers) stands new_stands agree p at (among_rest (λ p. same_key p.0 rel && has_number numbers p.1.number) db.rules p at off)))
-        (permit_trees_same f after db (change.DropRules rel numbers) stands new_stands agree (λ p at. at))
-        (trees_are_apart f db stands) (trees_are_apart after (laid db (change.DropRules rel numbers)) new_stands);
+    entries = entries_same f after db (change.DropRules rel numbers) stands new_allowed agree (λ r at. at) (λ r. refl) (λ v at. at) (λ x at. at) (entries_are_apart after (laid db (change.DropRules rel numbers)) new_allowed);
+    columns = attributes_same f after db (change.DropRules rel numbers) stands new_allowed agree (λ r at. at) (λ v at. at) (λ x at. at) (attributes_are_apart after (laid db (change.DropRules rel numbers)) new_allowed);
+    trees = moved_three same_tree grouped_trees.itself grouped_trees.turned
+        (view_trees_same f after db (change.DropRules rel numbers) stands new_allowed agree (λ v at. at))
+        (moved_out same_tree grouped_trees.itself grouped_trees.turned (rule_tree f) (rule_tree after) db.rules (λ p. same_key p.0 rel && has_number numbers p.1.number) (rule_trees f db stands)
+        (λ p at off. rule_tree_stays f after db (change.DropRules rel numbers) stands new_allowed agree p at (among_rest (λ p. same_key p.0 rel && has_number numbers p.1.number) db.rules p at off)))
+        (permit_trees_same f after db (change.DropRules rel numbers) stands new_allowed agree (λ p at. at))
+        (trees_are_apart f db stands) (trees_are_apart after (laid db (change.DropRules rel numbers)) new_allowed);
   }

@@ -10,7 +10,7 @@ use Rattle.calculus.specs.declared.schema.Rule.{Rule}
 use Rattle.calculus.specs.declared.schema.RelInfo.{RelInfo}
 use Rattle.calculus.specs.Change.{laid}
 use Rattle.calculus.specs.Database.{Db, Relation, View, Index, entries, is_there, is_relation}
-use Rattle.calculus.specs.IsDatabase.{IsDatabase, index_stands}
+use Rattle.calculus.specs.IsDatabase.{IsDatabase, valid_index}
 use Rattle.calculus.specs.Keys.{same_key, key_cmp}
 use Rattle.quel_tree.specs.Permits as spellings
 use Rattle.quel_tree.specs.Queries as queries
@@ -59,7 +59,7 @@ relation_is_there db key e = let u = relation_under db key e in ap (is_there db)
 
 pub base_is : (db : Db) → IsDatabase db → (x : Index) → IsIn x db.indexes → is_relation db x.base ≡ true
 base_is db is x at =
-    let all = both _ _ (of_tests (index_stands db) db.indexes x is.indexes_stand at) in
+    let all = both _ _ (of_tests (valid_index db) db.indexes x is.indexes_stand at) in
     (both (is_relation db x.base) _ all.1).0
 
 -- keys that are equal in their order are one
@@ -72,7 +72,7 @@ is_fresh db key other new there e = true≢false (sym new ∙ ap not (ap (is_the
 
 -- ---- what stays
 
-module _ (f after : Files) (db : Db) (made : DbChange) (stands : Stands f db) (new_stands : Stands after (laid db made)) (agree : Agree db made f after) where
+module _ (f after : Files) (db : Db) (made : DbChange) (stands : Stands f db) (new_allowed : Stands after (laid db made)) (agree : Agree db made f after) where
   -- a relation keeps its entry where it keeps the number of its pages
   pub relation_keeps : (r s : Relation) → IsIn r db.relations → IsIn s (laid db made).relations → s.info.key ≡ r.info.key → after.used r.info.key ≡ f.used r.info.key → relation_entry after r ≡ relation_entry f r
   relation_keeps r s at bt same used =
@@ -91,7 +91,7 @@ module _ (f after : Files) (db : Db) (made : DbChange) (stands : Stands f db) (n
   pub index_stays : (x : Index) → IsIn x db.indexes → IsIn x (laid db made).indexes → index_entry after x ≡ index_entry f x
   index_stays x at bt =
       let file = agree.file_stays x.info.key (index_there db x at) (index_there (laid db made) x bt) in
-      let base = agree.file_stays x.base (relation_is_there db x.base (base_is db stands.is x at)) (relation_is_there (laid db made) x.base (base_is (laid db made) new_stands.is x bt)) in
+      let base = agree.file_stays x.base (relation_is_there db x.base (base_is db stands.is x at)) (relation_is_there (laid db made) x.base (base_is (laid db made) new_allowed.is x bt)) in
       λ i. record { file = file i; key = x.info.key; spec = x.info.spec; base = base i; primary = 0; directory = 0; used = 0; keys = x.info.keys }
 
   attributes_stay : (i : RelInfo) → is_there db i.key ≡ true → is_there (laid db made) i.key ≡ true → attributes after i ≡ attributes f i
@@ -114,11 +114,11 @@ module _ (f after : Files) (db : Db) (made : DbChange) (stands : Stands f db) (n
   pub rule_tree_stays : (p : RelKey × Rule) → IsIn p db.rules → IsIn p (laid db made).rules → rule_tree after p ≡ rule_tree f p
   rule_tree_stays p at bt =
       let file = agree.file_stays p.0 (relation_is_there db p.0 (of_all (λ p. is_relation db p.0 ≡ true) db.rules p (rules_there f db stands) at))
-      (relation_is_there (laid db made) p.0 (of_all (λ p. is_relation (laid db made) p.0 ≡ true) (laid db made).rules p (rules_there after (laid db made) new_stands) bt)) in
+      (relation_is_there (laid db made) p.0 (of_all (λ p. is_relation (laid db made) p.0 ≡ true) (laid db made).rules p (rules_there after (laid db made) new_allowed) bt)) in
       λ i. record { file = file i; sort = 1; number = p.1.number; bytes = tree_bytes spellings.rule p.1 }
 
   pub permit_tree_stays : (p : RelKey × Permit) → IsIn p db.permits → IsIn p (laid db made).permits → permit_tree after p ≡ permit_tree f p
   permit_tree_stays p at bt =
       let file = agree.file_stays p.0 (relation_is_there db p.0 (of_all (λ p. is_relation db p.0 ≡ true) db.permits p (permits_there f db stands) at))
-      (relation_is_there (laid db made) p.0 (of_all (λ p. is_relation (laid db made) p.0 ≡ true) (laid db made).permits p (permits_there after (laid db made) new_stands) bt)) in
+      (relation_is_there (laid db made) p.0 (of_all (λ p. is_relation (laid db made) p.0 ≡ true) (laid db made).permits p (permits_there after (laid db made) new_allowed) bt)) in
       λ i. record { file = file i; sort = 2; number = p.1.number; bytes = tree_bytes spellings.permit p.1 }

@@ -9,7 +9,7 @@ use Rattle.std.specs.declared.cmp.Ordering.{Ordering}
 use Rattle.calculus.specs.declared.schema.Attr.{Attr}
 use Rattle.calculus.specs.declared.schema.RelInfo.{RelInfo}
 use Rattle.calculus.specs.Database.{Db, Relation, Index, View, entries, is_relation}
-use Rattle.calculus.specs.IsDatabase.{IsDatabase, row_qual_stands, permit_stands}
+use Rattle.calculus.specs.IsDatabase.{IsDatabase, valid_row_qual, valid_permit}
 use Rattle.calculus.specs.Lists.{differ_by}
 use Rattle.page_chain.specs.Lists.{in_order}
 use Rattle.stored_database.specs.Catalogue.{Catalogue}
@@ -17,12 +17,12 @@ use Rattle.stored_database.specs.Columns.{Column, column_cmp}
 use Rattle.stored_database.specs.Entries.{Entry, entry_cmp}
 use Rattle.stored_database.specs.Parts.{part_cmp}
 use Rattle.stored_database.specs.Printed.{Files, relation_entry, view_entry, index_entry, entries_for, columns_from, columns_for, parts_for, printed}
-use Rattle.stored_database.proofs.Groups.{Told}
+use Rattle.stored_database.proofs.Groups.{Grouped}
 use Rattle.stored_database.proofs.Orders.{column_total}
 use Rattle.stored_database.proofs.Pairs.{Pairs, all_then, pairs_map, pairs_front, pairs_behind, pass_all}
-use Rattle.stored_database.proofs.PrintedColumns.{columns_tell, columns_ascend, then_equal}
-use Rattle.stored_database.proofs.PrintedEntries.{told_entries, singles, entries_differ, infos_differ, nat_equal, equal_turned}
-use Rattle.stored_database.proofs.PrintedTrees.{Tree, parts_of, same_tree, told_trees, view_tree, rule_tree, permit_tree, trees_for, parts_are, trees_differ}
+use Rattle.stored_database.proofs.PrintedColumns.{columns_decide, columns_ascend, then_equal}
+use Rattle.stored_database.proofs.PrintedEntries.{grouped_entries, singles, entries_differ, infos_differ, nat_equal, equal_turned}
+use Rattle.stored_database.proofs.PrintedTrees.{Tree, parts_of, same_tree, grouped_trees, view_tree, rule_tree, permit_tree, trees_for, parts_are, trees_differ}
 use Rattle.stored_database.proofs.Reading.{both, number_itself}
 use Rattle.stored_database.specs.After.{after_change, changed, IsChange, AreChanges}
 use Rattle.stored_database.proofs.Moved.{Moved, set_after, set_changes}
@@ -49,10 +49,10 @@ abbrev pub attributes_for : Files → Db → List Attributes
 attributes_for f db =
     map (λ (r : Relation). attributes f r.info) db.relations ++ (map (λ (v : View). attributes f v.info) db.views ++ map (λ (x : Index). attributes f x.info) db.indexes)
 
-pub told_attributes : Told column_cmp columns_of (λ a c. c.file == a.file) same_owner
-told_attributes = record {
+pub grouped_attributes : Grouped column_cmp columns_of (λ a c. c.file == a.file) same_owner
+grouped_attributes = record {
   order = column_total;
-  tests = λ a b. columns_tell a.file b.file 0 b.attrs;
+  tests = λ a b. columns_decide a.file b.file 0 b.attrs;
   equals = λ a c d e. ap (λ n. n == a.file) (nat_equal c.file d.file (then_equal (nat_cmp c.file d.file) (nat_cmp c.place d.place) e).0);
   itself = λ a. number_itself a.file;
   turned = λ a b. equal_turned b.file a.file;
@@ -108,13 +108,13 @@ module _ (f : Files) (db : Db) (s : Stands f db) where
 
   pub rules_there : AllByRecursion (λ p. is_relation db p.0 ≡ true) db.rules
   rules_there =
-      all_then (λ p. (is_relation db p.0 && row_qual_stands db p.0 p.1.qual) ≡ true) (λ p. is_relation db p.0 ≡ true) db.rules
-      (λ p e. (both (is_relation db p.0) (row_qual_stands db p.0 p.1.qual) e).0) (pass_all (λ p. is_relation db p.0 && row_qual_stands db p.0 p.1.qual) db.rules s.is.rules_stand)
+      all_then (λ p. (is_relation db p.0 && valid_row_qual db p.0 p.1.qual) ≡ true) (λ p. is_relation db p.0 ≡ true) db.rules
+      (λ p e. (both (is_relation db p.0) (valid_row_qual db p.0 p.1.qual) e).0) (pass_all (λ p. is_relation db p.0 && valid_row_qual db p.0 p.1.qual) db.rules s.is.rules_stand)
 
   pub permits_there : AllByRecursion (λ p. is_relation db p.0 ≡ true) db.permits
   permits_there =
-      all_then (λ p. permit_stands db p.0 p.1 ≡ true) (λ p. is_relation db p.0 ≡ true) db.permits
-      (λ p e. (both (is_relation db p.0) _ e).0) (pass_all (λ p. permit_stands db p.0 p.1) db.permits s.is.permits_stand)
+      all_then (λ p. valid_permit db p.0 p.1 ≡ true) (λ p. is_relation db p.0 ≡ true) db.permits
+      (λ p e. (both (is_relation db p.0) _ e).0) (pass_all (λ p. valid_permit db p.0 p.1) db.permits s.is.permits_stand)
 
   pub trees_are_apart : Pairs (λ t u. same_tree t u ≡ false) (trees_for f db)
   trees_are_apart = trees_differ f db s.files_differ s.is.rules_ascend s.is.permits_ascend rules_there permits_there
@@ -177,23 +177,23 @@ pub record MovedAll (f : Files) (db : Db) (after : Files) (new : Db) (going comi
   pub columns : Moved same_owner (attributes_for f db) gone_attributes come_attributes (attributes_for after new)
   pub trees : Moved same_tree (trees_for f db) gone_trees come_trees (trees_for after new)
 
-module _ (f : Files) (db : Db) (after : Files) (new : Db) (going coming : Catalogue) (stands : Stands f db) (new_stands : Stands after new) (all : MovedAll f db after new going coming) where
+module _ (f : Files) (db : Db) (after : Files) (new : Db) (going coming : Catalogue) (stands : Stands f db) (new_allowed : Stands after new) (all : MovedAll f db after new going coming) where
   entries_after : in_order entry_cmp (entries_for after new) ≡ after_change entry_cmp going.entries coming.entries (in_order entry_cmp (entries_for f db))
   entries_after =
       ap (in_order entry_cmp) (sym (singles (entries_for after new)))
-      ∙ set_after told_entries (entries_for f db) going.entries coming.entries (entries_for after new) all.entries (entries_are_apart f db stands) (entries_are_apart after new new_stands)
+      ∙ set_after grouped_entries (entries_for f db) going.entries coming.entries (entries_for after new) all.entries (entries_are_apart f db stands) (entries_are_apart after new new_allowed)
       ∙ (λ i. after_change entry_cmp (singles going.entries i) (singles coming.entries i) (in_order entry_cmp (singles (entries_for f db) i)))
 
   columns_after : in_order column_cmp (columns_for after new) ≡ after_change column_cmp going.columns coming.columns (in_order column_cmp (columns_for f db))
   columns_after =
       ap (in_order column_cmp) (columns_are after new)
-      ∙ set_after told_attributes (attributes_for f db) all.gone_attributes all.come_attributes (attributes_for after new) all.columns (attributes_are_apart f db stands) (attributes_are_apart after new new_stands)
+      ∙ set_after grouped_attributes (attributes_for f db) all.gone_attributes all.come_attributes (attributes_for after new) all.columns (attributes_are_apart f db stands) (attributes_are_apart after new new_allowed)
       ∙ (λ i. after_change column_cmp (sym all.gone_columns_are i) (sym all.come_columns_are i) (in_order column_cmp (sym (columns_are f db) i)))
 
   parts_after : in_order part_cmp (parts_for after new) ≡ after_change part_cmp going.parts coming.parts (in_order part_cmp (parts_for f db))
   parts_after =
       ap (in_order part_cmp) (parts_are after new)
-      ∙ set_after told_trees (trees_for f db) all.gone_trees all.come_trees (trees_for after new) all.trees (trees_are_apart f db stands) (trees_are_apart after new new_stands)
+      ∙ set_after grouped_trees (trees_for f db) all.gone_trees all.come_trees (trees_for after new) all.trees (trees_are_apart f db stands) (trees_are_apart after new new_allowed)
       ∙ (λ i. after_change part_cmp (sym all.gone_parts_are i) (sym all.come_parts_are i) (in_order part_cmp (sym (parts_are f db) i)))
 
   pub catalogue_after : printed new after ≡ changed going coming (printed db f)
@@ -203,17 +203,17 @@ module _ (f : Files) (db : Db) (after : Files) (new : Db) (going coming : Catalo
   entries_change : IsChange entry_cmp going.entries coming.entries (in_order entry_cmp (entries_for f db))
   entries_change =
       carried (singles going.entries) (singles coming.entries) (ap (in_order entry_cmp) (singles (entries_for f db)))
-      (set_changes told_entries (entries_for f db) going.entries coming.entries (entries_for after new) all.entries (entries_are_apart f db stands) (entries_are_apart after new new_stands))
+      (set_changes grouped_entries (entries_for f db) going.entries coming.entries (entries_for after new) all.entries (entries_are_apart f db stands) (entries_are_apart after new new_allowed))
 
   columns_change : IsChange column_cmp going.columns coming.columns (in_order column_cmp (columns_for f db))
   columns_change =
       carried (sym all.gone_columns_are) (sym all.come_columns_are) (ap (in_order column_cmp) (sym (columns_are f db)))
-      (set_changes told_attributes (attributes_for f db) all.gone_attributes all.come_attributes (attributes_for after new) all.columns (attributes_are_apart f db stands) (attributes_are_apart after new new_stands))
+      (set_changes grouped_attributes (attributes_for f db) all.gone_attributes all.come_attributes (attributes_for after new) all.columns (attributes_are_apart f db stands) (attributes_are_apart after new new_allowed))
 
   parts_change : IsChange part_cmp going.parts coming.parts (in_order part_cmp (parts_for f db))
   parts_change =
       carried (sym all.gone_parts_are) (sym all.come_parts_are) (ap (in_order part_cmp) (sym (parts_are f db)))
-      (set_changes told_trees (trees_for f db) all.gone_trees all.come_trees (trees_for after new) all.trees (trees_are_apart f db stands) (trees_are_apart after new new_stands))
+      (set_changes grouped_trees (trees_for f db) all.gone_trees all.come_trees (trees_for after new) all.trees (trees_are_apart f db stands) (trees_are_apart after new new_allowed))
 
   pub rows_change : AreChanges going coming (printed db f)
   unfolding printed

@@ -15,7 +15,7 @@ use Rattle.calculus.specs.declared.value.Domain.TheVariants.{I1, I2, I4, C}
 use Rattle.calculus.specs.declared.value.Kind.{Kind}
 use Rattle.calculus.specs.declared.value.Kind.TheVariants.{Of, Wide}
 use Rattle.calculus.specs.Database.{Db, View, is_relation}
-use Rattle.calculus.specs.IsDatabase.{IsDatabase, is_domain, is_kind, attrs_stand, same_domain, same_kind, attrs_are_targets, has_kind, var_kinds, query_stands, vars_are_there, row_qual_stands, user_is_named, permit_attrs_stand, permit_stands}
+use Rattle.calculus.specs.IsDatabase.{IsDatabase, is_domain, is_kind, attrs_stand, same_domain, same_kind, attrs_are_targets, has_kind, var_kinds, valid_query, vars_are_there, valid_row_qual, user_is_named, permit_attrs_stand, valid_permit}
 use Rattle.calculus.specs.Kinds.{kind_of, kinds_fit}
 use Rattle.calculus.specs.Limits.{greatest_qual_size, most_levels, most_listed_attributes, greatest_number, most_expanded_variables}
 use Rattle.calculus.specs.Lists.{is_any, differ_by}
@@ -156,7 +156,7 @@ query_fits n vars few (Query' keys marks targets q) h spelled few_keys named few
     )
 
 module _ (db : Db) (d : IsDatabase db) where
-  view_fits : (v : View) → query_is_storable v.query ≡ true → nat_le (length (vars_of v.query)) most_expanded_variables ≡ true → vars_are_there db v.query ≡ true → query_stands db v.query ≡ true
+  view_fits : (v : View) → query_is_storable v.query ≡ true → nat_le (length (vars_of v.query)) most_expanded_variables ≡ true → vars_are_there db v.query ≡ true → valid_query db v.query ≡ true
       → attrs_are_targets v.info.attrs (targets_of v.query) ≡ true → attrs_stand v.info.attrs ≡ true → (query most_tree_levels).Fits v.query
   view_fits v storable few there stands same attrs =
       let tree = and_parts (nat_le (query_levels v.query) most_levels) (query_is_spelled v.query) storable in
@@ -176,21 +176,21 @@ module _ (db : Db) (d : IsDatabase db) where
       (pass_all (λ t. has_kind (kind_of t.term (var_kinds db v.query)) t.kind) (targets_of v.query) two.0) two.1
 
   views_fit : (vs : List View) → list_all (λ v. query_is_storable v.query) vs ≡ true → list_all (λ v. nat_le (length (vars_of v.query)) most_expanded_variables) vs ≡ true → list_all (λ v. vars_are_there db v.query) vs ≡ true
-      → list_all (λ v. query_stands db v.query) vs ≡ true → list_all (λ v. attrs_are_targets v.info.attrs (targets_of v.query)) vs ≡ true → list_all (λ v. attrs_stand v.info.attrs) vs ≡ true
+      → list_all (λ v. valid_query db v.query) vs ≡ true → list_all (λ v. attrs_are_targets v.info.attrs (targets_of v.query)) vs ≡ true → list_all (λ v. attrs_stand v.info.attrs) vs ≡ true
       → AllByRecursion (λ v. (query most_tree_levels).Fits v.query) vs
   views_fit [] storable few there stands same attrs = tt
   views_fit (v ∷ vs) storable few there stands same attrs =
       let a = and_parts (query_is_storable v.query) (list_all (λ v. query_is_storable v.query) vs) storable in
       let b = and_parts (nat_le (length (vars_of v.query)) most_expanded_variables) (list_all (λ v. nat_le (length (vars_of v.query)) most_expanded_variables) vs) few in
       let c = and_parts (vars_are_there db v.query) (list_all (λ v. vars_are_there db v.query) vs) there in
-      let e = and_parts (query_stands db v.query) (list_all (λ v. query_stands db v.query) vs) stands in
+      let e = and_parts (valid_query db v.query) (list_all (λ v. valid_query db v.query) vs) stands in
       let g = and_parts (attrs_are_targets v.info.attrs (targets_of v.query)) (list_all (λ v. attrs_are_targets v.info.attrs (targets_of v.query)) vs) same in
       let h = and_parts (attrs_stand v.info.attrs) (list_all (λ v. attrs_stand v.info.attrs) vs) attrs in
       (view_fits v a.0 b.0 c.0 e.0 g.0 h.0, views_fit vs a.1 b.1 c.1 e.1 g.1 h.1)
 
   -- ---- rules and permits
 
-  row_qual_fits : (rel : RelKey) (q : QQual) → row_qual_is_storable q ≡ true → row_qual_stands db rel q ≡ true → (qual most_tree_levels).Fits q
+  row_qual_fits : (rel : RelKey) (q : QQual) → row_qual_is_storable q ≡ true → valid_row_qual db rel q ≡ true → (qual most_tree_levels).Fits q
   row_qual_fits rel q storable stands =
       let one = and_parts (row_qual_is_small q) (qual_is_spelled q) storable in
       let two = and_parts (nat_le (qual_size [] q) greatest_qual_size) (nat_le (qual_levels q) most_levels) one.0 in
@@ -199,15 +199,15 @@ module _ (db : Db) (d : IsDatabase db) where
   small : (n : ℕ) → nat_le n greatest_number ≡ true → n < 4294967296
   small n e = let most = leb-true n greatest_number e in omega (arith, most)
 
-  rules_fit : (ps : List (RelKey × Rule)) → list_all (λ p. row_qual_is_storable p.1.qual) ps ≡ true → list_all (λ p. is_relation db p.0 && row_qual_stands db p.0 p.1.qual) ps ≡ true → list_all (λ p. nat_le p.1.number greatest_number) ps ≡ true
+  rules_fit : (ps : List (RelKey × Rule)) → list_all (λ p. row_qual_is_storable p.1.qual) ps ≡ true → list_all (λ p. is_relation db p.0 && valid_row_qual db p.0 p.1.qual) ps ≡ true → list_all (λ p. nat_le p.1.number greatest_number) ps ≡ true
       → AllByRecursion (λ p. (rule most_tree_levels).Fits p.1) ps
   unfolding rule
   rules_fit [] storable stands numbers = tt
   rules_fit (p ∷ ps) storable stands numbers =
       let a = and_parts (row_qual_is_storable p.1.qual) (list_all (λ p. row_qual_is_storable p.1.qual) ps) storable in
-      let b = and_parts (is_relation db p.0 && row_qual_stands db p.0 p.1.qual) (list_all (λ p. is_relation db p.0 && row_qual_stands db p.0 p.1.qual) ps) stands in
+      let b = and_parts (is_relation db p.0 && valid_row_qual db p.0 p.1.qual) (list_all (λ p. is_relation db p.0 && valid_row_qual db p.0 p.1.qual) ps) stands in
       let c = and_parts (nat_le p.1.number greatest_number) (list_all (λ p. nat_le p.1.number greatest_number) ps) numbers in
-      ((fits_32 p.1.number (small p.1.number c.0), row_qual_fits p.0 p.1.qual a.0 (and_parts (is_relation db p.0) (row_qual_stands db p.0 p.1.qual) b.0).1), rules_fit ps a.1 b.1 c.1)
+      ((fits_32 p.1.number (small p.1.number c.0), row_qual_fits p.0 p.1.qual a.0 (and_parts (is_relation db p.0) (valid_row_qual db p.0 p.1.qual) b.0).1), rules_fit ps a.1 b.1 c.1)
 
   user_fits : (user : Option (List ℕ)) → user_is_named user ≡ true → (option name).Fits user
   unfolding option
@@ -219,25 +219,25 @@ module _ (db : Db) (d : IsDatabase db) where
       let few = few_attrs_at db d rel in
       all_then (λ a. nat_lt a (length (attrs_at db rel)) ≡ true) byte.Fits attrs (λ a e. (let less = ltb-true a (length (attrs_at db rel)) e in omega (arith, less, few))) (pass_all (λ a. nat_lt a (length (attrs_at db rel))) attrs e)
 
-  permit_fits : (rel : RelKey) (p : Permit) → row_qual_is_storable p.qual ≡ true → permit_lists_are_storable p ≡ true → permit_stands db rel p ≡ true → nat_le p.number greatest_number ≡ true → (permit most_tree_levels).Fits p
+  permit_fits : (rel : RelKey) (p : Permit) → row_qual_is_storable p.qual ≡ true → permit_lists_are_storable p ≡ true → valid_permit db rel p ≡ true → nat_le p.number greatest_number ≡ true → (permit most_tree_levels).Fits p
   unfolding permit
   permit_fits rel p storable lists stands number =
       let one = and_parts (is_relation db rel) _ stands in
       let two = and_parts (bytes_eq rel.owner db.dba) _ one.1 in
       let three = and_parts (user_is_named p.user) _ two.1 in
-      let four = and_parts (permit_attrs_stand db rel p.attrs) (row_qual_stands db rel p.qual) three.1 in
+      let four = and_parts (permit_attrs_stand db rel p.attrs) (valid_row_qual db rel p.qual) three.1 in
       let five = and_parts (nat_le (length p.attrs) most_listed_attributes) (are_rights p.ops) lists in
       let few = leb-true (length p.attrs) most_listed_attributes five.0 in
       let rights = leb-true p.ops 15 five.1 in
       (fits_32 p.number (small p.number number), (omega (arith, rights), (list_fits byte p.attrs (omega (arith, few)) (places_fit rel p.attrs four.0), (user_fits p.user three.0, row_qual_fits rel p.qual storable four.1))))
 
-  permits_fit : (ps : List (RelKey × Permit)) → list_all (λ p. row_qual_is_storable p.1.qual) ps ≡ true → list_all (λ p. permit_lists_are_storable p.1) ps ≡ true → list_all (λ p. permit_stands db p.0 p.1) ps ≡ true → list_all (λ p. nat_le p.1.number greatest_number) ps ≡ true
+  permits_fit : (ps : List (RelKey × Permit)) → list_all (λ p. row_qual_is_storable p.1.qual) ps ≡ true → list_all (λ p. permit_lists_are_storable p.1) ps ≡ true → list_all (λ p. valid_permit db p.0 p.1) ps ≡ true → list_all (λ p. nat_le p.1.number greatest_number) ps ≡ true
       → AllByRecursion (λ p. (permit most_tree_levels).Fits p.1) ps
   permits_fit [] storable lists stands numbers = tt
   permits_fit (p ∷ ps) storable lists stands numbers =
       let a = and_parts (row_qual_is_storable p.1.qual) (list_all (λ p. row_qual_is_storable p.1.qual) ps) storable in
       let b = and_parts (permit_lists_are_storable p.1) (list_all (λ p. permit_lists_are_storable p.1) ps) lists in
-      let c = and_parts (permit_stands db p.0 p.1) (list_all (λ p. permit_stands db p.0 p.1) ps) stands in
+      let c = and_parts (valid_permit db p.0 p.1) (list_all (λ p. valid_permit db p.0 p.1) ps) stands in
       let e = and_parts (nat_le p.1.number greatest_number) (list_all (λ p. nat_le p.1.number greatest_number) ps) numbers in
       (permit_fits p.0 p.1 a.0 b.0 c.0 e.0, permits_fit ps a.1 b.1 c.1 e.1)
 

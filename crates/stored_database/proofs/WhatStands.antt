@@ -16,28 +16,28 @@ use Rattle.page_chain.specs.Rows.{set_on, reader}
 use Rattle.stored_database.specs.Catalogue.{Catalogue, catalogue_in}
 use Rattle.stored_database.specs.Entries.{Entry, is_entry}
 use Rattle.stored_database.specs.IsOne.{is_database}
-use Rattle.stored_database.specs.Laws.{WhatStandsIsADatabase, OneDatabase, SameRedone, OnlyKeptPagesCount, SameWhereKept, ShutDisksHold}
+use Rattle.stored_database.specs.Laws.{WhatIsDenotedIsADatabase, OneDatabase, SameRedone, OnlyKeptPagesCount, SameWhereKept, ShutDisksHold}
 use Rattle.stored_database.specs.Spelled.{attrs_of, info_of, domain_of, relation_of, entries_that, columns_stand, parts_stand, relations_of, indexes_of, views_of, rules_of, permits_of, spelled}
-use Rattle.stored_database.specs.Standing.{header_of, birth, database_of, standing, stored}
+use Rattle.stored_database.specs.Denoting.{header_of, birth, database_of, denoted, stored}
 use Rattle.stored_database.proofs.CatalogueRead.{catalogues_are_read}
 use Rattle.stored_database.proofs.EntryBytes.{stands}
-use Rattle.stored_database.proofs.IsOne.{the_test_tells}
+use Rattle.stored_database.proofs.IsOne.{the_test_decides}
 use Rattle.stored_database.proofs.Members.{IsIn, of_all, filter_in}
 use Rattle.stored_database.proofs.Reading.{bind_some, when_some}
 
-pub what_stands_is_a_database : WhatStandsIsADatabase
-unfolding standing
-what_stands_is_a_database pages db h =
+pub what_is_denoted_is_a_database : WhatIsDenotedIsADatabase
+unfolding denoted
+what_is_denoted_is_a_database pages db h =
     let b = bind_some (database_of pages) (λ db. when (is_database db) db) db h in
     let w = when_some (is_database b.0) b.0 db b.2 in
-    (the_test_tells db).0 (ap is_database (sym w.1) ∙ w.0)
+    (the_test_decides db).0 (ap is_database (sym w.1) ∙ w.0)
 
 pub one_database : OneDatabase
 one_database pages one other first second = same_Some one other (sym first ∙ second)
 
 pub same_redone : SameRedone
 unfolding stored
-same_redone m n same = ap (λ o. o >>= standing) same
+same_redone m n same = ap (λ o. o >>= denoted) same
 
 -- ---- pages that count
 
@@ -90,7 +90,7 @@ same_if m dba (Some cat) h =
     same_spelled dba (pages_of (kept m)) (pages_of m) cat (λ e at is. kept_pages m e.file (kept_file e (of_all (λ e. is_entry e ≡ true) cat.entries e is_cat.are_entries at)))
 
 pub only_kept_pages_count : OnlyKeptPagesCount
-unfolding standing database_of catalogue_in spelled_if
+unfolding denoted database_of catalogue_in spelled_if
 only_kept_pages_count m = λ i.
     (m (addr 0 0) >>= (λ page. header_of page >>= (λ dba. check (birth m == 1) >>= (λ born. same_if m dba (catalogue_in (pages_of m)) refl i)))) >>= (λ db. when (is_database db) db)
 
@@ -102,9 +102,9 @@ same_kept m n same = λ i b. go b (is_kept b.file) refl i
     go b false e = ap (λ t. if t then m b else None) e ∙ sym (ap (λ t. if t then n b else None) e)
 
 pub same_where_kept : SameWhereKept
-same_where_kept m n same = sym (only_kept_pages_count m) ∙ ap standing (same_kept m n same) ∙ only_kept_pages_count n
+same_where_kept m n same = sym (only_kept_pages_count m) ∙ ap denoted (same_kept m n same) ∙ only_kept_pages_count n
 
 pub shut_disks_hold : ShutDisksHold
 unfolding stored redone
 shut_disks_hold m h =
-    ap (λ shut. redone_of shut (damage m) (kept m) (kept (laid (entries m (count m)) m)) >>= standing) h ∙ only_kept_pages_count m
+    ap (λ shut. redone_of shut (damage m) (kept m) (kept (laid (entries m (count m)) m)) >>= denoted) h ∙ only_kept_pages_count m

@@ -12,7 +12,7 @@ use Rattle.calculus.specs.Database.{Db, is_relation, entries, rules_on, permits_
 use Rattle.calculus.specs.QueryParts.{vars_of, targets_of}
 use Rattle.calculus.specs.Sizes.{level_of, variables, expanded_variables, query_size}
 use Rattle.calculus.specs.Storable.{query_is_storable, row_qual_is_storable, permit_lists_are_storable}
-use Rattle.calculus.specs.IsDatabase.{key_is_named, structure_stands, attrs_stand, are_stored, relation_rows_fit, index_stands, view_info_stands, attrs_are_targets, vars_are_there, query_stands, row_qual_stands, permit_stands}
+use Rattle.calculus.specs.IsDatabase.{key_is_named, valid_structure, attrs_stand, are_stored, relation_rows_fit, valid_index, valid_view_info, attrs_are_targets, vars_are_there, valid_query, valid_row_qual, valid_permit}
 
 -- each item is smaller than every item behind it
 abbrev pub ascends : {A : Type 0} → (A → A → Ordering) → List A → Bool
@@ -35,23 +35,23 @@ is_ordered db =
 -- each relation has a structure, attributes with domains, and a set of rows that fit, and each index key attributes of one
 abbrev pub relations_stand : Db → Bool
 relations_stand db =
-    list_all (λ r. structure_stands r.info) db.relations
+    list_all (λ r. valid_structure r.info) db.relations
     && (list_all (λ r. attrs_stand r.info.attrs) db.relations
     && (list_all (λ r. are_stored r.info.attrs) db.relations
-    && (list_all (λ r. ascends row_cmp r.rows) db.relations && (list_all relation_rows_fit db.relations && list_all (index_stands db) db.indexes))))
+    && (list_all (λ r. ascends row_cmp r.rows) db.relations && (list_all relation_rows_fit db.relations && list_all (valid_index db) db.indexes))))
 
 -- each view has the attributes that its query gives it; what the query names is there and has a smaller level, and its kinds fit
 abbrev pub views_stand : Db → Bool
 views_stand db =
-    list_all (λ v. view_info_stands v.info) db.views
+    list_all (λ v. valid_view_info v.info) db.views
     && (list_all (λ v. attrs_stand v.info.attrs) db.views
     && (list_all (λ v. attrs_are_targets v.info.attrs (targets_of v.query)) db.views
     && (list_all (λ v. vars_are_there db v.query) db.views
-    && (list_all (λ v. is_some (level_of db v.info.key)) db.views && list_all (λ v. query_stands db v.query) db.views))))
+    && (list_all (λ v. is_some (level_of db v.info.key)) db.views && list_all (λ v. valid_query db v.query) db.views))))
 
 -- rules stand on base relations, permits on those of the administrator
 abbrev pub rules_and_permits_stand : Db → Bool
-rules_and_permits_stand db = list_all (λ p. is_relation db p.0 && row_qual_stands db p.0 p.1.qual) db.rules && list_all (λ p. permit_stands db p.0 p.1) db.permits
+rules_and_permits_stand db = list_all (λ p. is_relation db p.0 && valid_row_qual db p.0 p.1.qual) db.rules && list_all (λ p. valid_permit db p.0 p.1) db.permits
 
 -- what is stored as a tree can be
 abbrev pub is_storable : Db → Bool

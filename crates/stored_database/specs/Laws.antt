@@ -20,7 +20,7 @@ use Rattle.stored_database.specs.Entries.{Entry, entry_cmp, entry_of, entry_byte
 use Rattle.stored_database.specs.Parts.{Part, part_cmp, part_of, part_bytes, is_part}
 use Rattle.stored_database.specs.Printed.{Files, HasFiles, files_in, printed, trees_are_short}
 use Rattle.stored_database.specs.Spelled.{spelled}
-use Rattle.stored_database.specs.Standing.{header_bytes, header_of, birth, StandsFor, standing, stored, IsFresh, empty_database}
+use Rattle.stored_database.specs.Denoting.{header_bytes, header_of, birth, Denotes, denoted, stored, IsFresh, empty_database}
 use Rattle.stored_database.specs.Trees.{query_of, rule_of, permit_of}
 
 -- ---- bytes
@@ -70,33 +70,33 @@ pub record WhatIsListed : Type 0 where
 
 -- ---- pages
 
--- what pages stand for is a database
-abbrev pub WhatStandsIsADatabase : Type 0
-WhatStandsIsADatabase = (pages : Image) (db : Db) → StandsFor pages db → IsDatabase db
+-- what pages denote is a database
+abbrev pub WhatIsDenotedIsADatabase : Type 0
+WhatIsDenotedIsADatabase = (pages : Image) (db : Db) → Denotes pages db → IsDatabase db
 
 -- pages stand for at most one database
 abbrev pub OneDatabase : Type 0
-OneDatabase = (pages : Image) (one other : Db) → StandsFor pages one → StandsFor pages other → one ≡ other
+OneDatabase = (pages : Image) (one other : Db) → Denotes pages one → Denotes pages other → one ≡ other
 
--- disks whose pages are the same once their batches are laid hold the same database
+-- disks whose pages are the same once their batches are applied hold the same database
 abbrev pub SameRedone : Type 0
 SameRedone = (m n : Image) → redone m ≡ redone n → stored m ≡ stored n
 
 -- only the pages of file 0 and of the files from 5 up count
 abbrev pub OnlyKeptPagesCount : Type 0
-OnlyKeptPagesCount = (m : Image) → standing (kept m) ≡ standing m
+OnlyKeptPagesCount = (m : Image) → denoted (kept m) ≡ denoted m
 
 -- images with the same such pages stand for the same database
 abbrev pub SameWhereKept : Type 0
-SameWhereKept = (m n : Image) → ((b : Addr) → is_kept b.file ≡ true → m b ≡ n b) → standing m ≡ standing n
+SameWhereKept = (m n : Image) → ((b : Addr) → is_kept b.file ≡ true → m b ≡ n b) → denoted m ≡ denoted n
 
--- a disk whose gate isn't open holds what its pages stand for
+-- a disk whose gate isn't open holds what its pages denote
 abbrev pub ShutDisksHold : Type 0
-ShutDisksHold = (m : Image) → (gate m == 1) ≡ false → stored m ≡ standing m
+ShutDisksHold = (m : Image) → (gate m == 1) ≡ false → stored m ≡ denoted m
 
 -- fresh pages stand for an empty database
 abbrev pub FreshPagesStand : Type 0
-FreshPagesStand = (m : Image) (dba : List ℕ) → is_name dba ≡ true → IsFresh m dba → StandsFor m (empty_database dba)
+FreshPagesStand = (m : Image) (dba : List ℕ) → is_name dba ≡ true → IsFresh m dba → Denotes m (empty_database dba)
 
 -- The pages that a database has: its administrator's header, the birth byte, its catalogue by files that it may have, and on them its rows.
 pub record HasPages (m : Image) (db : Db) : Type 0 where
@@ -108,9 +108,9 @@ pub record HasPages (m : Image) (db : Db) : Type 0 where
   pub catalogue : catalogue_in (pages_of m) ≡ Some (printed db files)
   pub has : HasFiles db (pages_of m) files
 
--- pages stand for a database exactly where they are the pages that it has
+-- pages denote a database exactly where they are the pages that it has
 abbrev pub PagesStandExactly : Type 0
-PagesStandExactly = (m : Image) (db : Db) → IsDatabase db → StandsFor m db ↔ HasPages m db
+PagesStandExactly = (m : Image) (db : Db) → IsDatabase db → Denotes m db ↔ HasPages m db
 
 -- the first bytes of a page are a header exactly of a name
 abbrev pub HeadersAreTheirBytes : Type 0

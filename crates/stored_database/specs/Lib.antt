@@ -10,7 +10,7 @@ pub mod Parts
 pub mod Permits
 pub mod Printed
 pub mod Spelled
-pub mod Standing
+pub mod Denoting
 pub mod Trees
 pub mod Tried
 pub mod Turned

@@ -6,7 +6,7 @@ ghost use Rattle.calculus.specs.IsDatabase.{IsDatabase};
 ghost use Rattle.stored_database.specs.IsOne.{is_database};
 
 /// The test tells what is a database.
-#[tactic(auto, using(crate::proofs::IsOne::the_test_tells))]
-pub fn the_test_tells_a_database()
+#[tactic(auto, using(crate::proofs::IsOne::the_test_decides))]
+pub fn the_test_decides_a_database()
     ensures { (db : Db) → (is_database db ≡ true) ↔ IsDatabase db }
 {}

@@ -1,19 +1,19 @@
-//! A base that tells no database, and answers by what it was given.
+//! A base of which no database is known, and answers by what it was given.
 
 ghost use Rattle.std.specs.Prelude.{None, [], false, true, refl};
 ghost use Rattle.std.proofs.Common.{arith};
 ghost use Rattle.std.proofs.lemmas.Option.{none-some};
-ghost use Rattle.am_traits.specs.InMemory.{asked_in_memory};
+ghost use Rattle.base_trait.specs.InMemory.{asked_in_memory};
 
 use crate::given::{copied, known, named, put_permits, put_rules, rows, view};
-use am_traits::{Base, BaseFault};
+use base_trait::{Base, BaseFault};
 use calculus::{
     DbChange, Name, OutOfMemory, Permit, Place, Probe, Query, RelInfo, RelKey, Row, Rule, Value,
 };
 use quel_tree::{DbChangeTree, TreeFault, tree_of};
 use std::alloc::Global;
 
-/// A base that tells no database, of ann as the administrator. What it knows is given by changes that make
+/// A base of which no database is known, of ann as the administrator. What it knows is given by changes that make
 /// relations, views, rules and permits, each spelled as bytes. It answers with the first that has the name or
 /// the key, and looks neither at the user nor at a probe. Nothing changes it.
 pub struct TestBase {
@@ -138,11 +138,11 @@ impl Base for TestBase {
 
     ghost left = { λ _ _ _. [] };
 
-    ghost lawful = { λ _ db told. absurd (none-some db told) };
+    ghost lawful = { λ _ db known. absurd (none-some db known) };
 
-    ghost own = { λ _ db told. absurd (none-some db told) };
+    ghost own = { λ _ db known. absurd (none-some db known) };
 
-    ghost scanned = { λ _ db _ told. absurd (none-some db told) };
+    ghost scanned = { λ _ db _ known. absurd (none-some db known) };
 
     ghost counts_now = { λ _ _ _ _ left. left };
 

@@ -1,4 +1,4 @@
-//! A base for tests that answers by what it was given, and tells no database.
+//! A base for tests that answers by what it was given, of which no database is known.
 #![tactic(auto)]
 
 mod base;

@@ -137,7 +137,7 @@ const QUARTERS: [Quarters; 2] = [
 
 #[test]
 fn includes_have_a_size(rt: HostRuntime) {
-    for (script, output) in QUARTERS {
+    for (script, output) in &QUARTERS {
         assert!(rt; quarters_give(&rt, script, output));
     }
 }

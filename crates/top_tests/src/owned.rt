@@ -3,7 +3,7 @@
 use crate::turns::{Turn, all_print};
 use std::test::*;
 
-/// What another user made can't be destroyed, restructured, indexed or copied; that is judged last, and own names
+/// What another user made can't be destroyed, restructured, indexed or copied; that is checked last, and own names
 /// come first.
 const OWNED: [Turn; 3] = [
     (

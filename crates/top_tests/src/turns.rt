@@ -7,7 +7,7 @@ use monitor::push_reply;
 use plain_base::DbPlain;
 use plain_statements::PlainStatements;
 use quel_check::RangeTable;
-use quel_lexer::first_place;
+use quel_lexer::first_offset;
 use quel_parse::next_statement;
 use session_run::Statements;
 use std::alloc::AllocGlobal;
@@ -54,7 +54,7 @@ fn step(
     at: usize,
     out: &mut Vec<u8>,
 ) -> Option<usize> {
-    let first = first_place(rt.alloc(), batch, at).expect(rt, "memory");
+    let first = first_offset(rt.alloc(), batch, at).expect(rt, "memory");
     match next_statement(rt.alloc(), batch, at) {
         Ok(Some((s, end))) => {
             let reply = statements.run(rt.alloc(), shelf, &s);

@@ -4,7 +4,7 @@ use crate::turns::{Turn, all_print};
 use std::test::*;
 
 /// Two permits of an attribute each don't permit both, and none of them a deletion. What a statement names,
-/// its kinds and its titles are judged before its permits.
+/// its kinds and its titles are checked before its permits.
 const NAMED: [Turn; 2] = [
     (
         b"ann",

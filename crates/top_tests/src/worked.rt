@@ -5,7 +5,7 @@ use crate::worked_catalogue::DEFINED;
 use std::test::*;
 
 /// Scripts that ask and change, each with what it prints and leaves.
-const ASKED: [Case; 18] = [
+static ASKED: [Case; 18] = [
     // A script without a line.
     Case {
         files: &[],

@@ -3,7 +3,7 @@
 use crate::trials::Case;
 
 /// Scripts that define and use files, each with what it prints and leaves.
-pub(crate) const DEFINED: [Case; 7] = [
+pub(crate) static DEFINED: [Case; 7] = [
     // An unknown command, and a file that isn't there.
     Case {
         files: &[],

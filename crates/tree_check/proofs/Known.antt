@@ -2,14 +2,14 @@
 use Rattle.std.proofs.Common.{◌≡◌, refl, sym, ap, ◌∙◌, Bool, true, false, not, ◌&&◌, ◌||◌, map, Option, Some, None, is_some}
 use Rattle.std.specs.List.{flat_map}
 use Rattle.std.specs.Option.{option_map, option_or}
-use Rattle.am_traits.specs.Told.{known_at}
+use Rattle.base_trait.specs.Known.{known_at}
 use Rattle.calculus.specs.declared.query.RelKey.{RelKey}
 use Rattle.calculus.specs.declared.schema.RelInfo.{RelInfo}
 use Rattle.calculus.specs.declared.schema.Spec.{Spec}
 use Rattle.calculus.specs.declared.schema.Spec.TheVariants as spec
 use Rattle.calculus.specs.Catalogue.{catalogue_at, relation_key, attribute_key, relation_info, attribute_info, relation_row, attribute_rows, all_entries}
 use Rattle.calculus.specs.Database.{Db, Relation, View, Index, entry_at, relation_at, view_at, index_at, is_relation}
-use Rattle.calculus.specs.IsDatabase.{IsDatabase, keys_stand, structure_stands, view_info_stands, index_stands}
+use Rattle.calculus.specs.IsDatabase.{IsDatabase, keys_stand, valid_structure, valid_view_info, valid_index}
 use Rattle.calculus.specs.Keys.{same_key}
 use Rattle.calculus.specs.Lists.{is_any}
 use Rattle.calculus.specs.Rows.{set_of}
@@ -24,7 +24,7 @@ use Rattle.tree_check.specs.Standing.{is_kept_info}
 
 -- ---- what keeps its rows
 
-a_structure : (info : RelInfo) → structure_stands info ≡ true → is_structure info.spec ≡ true
+a_structure : (info : RelInfo) → valid_structure info ≡ true → is_structure info.spec ≡ true
 a_structure info h = go info.spec h
   where
     go : (s : Spec)
@@ -36,7 +36,7 @@ a_structure info h = go info.spec h
     go spec.View k = absurd (cc k)
     go spec.Index k = absurd (cc k)
 
-no_view : (info : RelInfo) → view_info_stands info ≡ true → is_structure info.spec ≡ false
+no_view : (info : RelInfo) → valid_view_info info ≡ true → is_structure info.spec ≡ false
 no_view info h = go info.spec h
   where
     go : (s : Spec) → (is_view s && not (is_any info.keys)) ≡ true → is_structure s ≡ false
@@ -46,7 +46,7 @@ no_view info h = go info.spec h
     go spec.View k = refl
     go spec.Index k = absurd (cc k)
 
-no_index : (db : Db) (x : Index) → index_stands db x ≡ true → is_structure x.info.spec ≡ false
+no_index : (db : Db) (x : Index) → valid_index db x ≡ true → is_structure x.info.spec ≡ false
 no_index db x h = go x.info.spec h
   where
     go : (s : Spec) → (is_index s && (is_relation db x.base && (not (is_any x.info.attrs) && (is_any x.info.keys && keys_stand (attrs_at db x.base) x.info.keys)))) ≡ true
@@ -92,11 +92,11 @@ kept_known db is key =
         → is_kept_info (option_or (option_or (option_map (λ (r : Relation). r.info) r) (option_or (option_map (λ (v : View). v.info) v) (option_map (λ (x : Index). x.info) x))) (option_map (λ (r : Relation). r.info) c))
         ≡ keeps_rows (elim r as (λ x. Option Range) [ Some relation ↦ Some (Kept relation) | None ↦ elim v as (λ x. Option Range) [ Some view ↦ Some (Viewed view) | None ↦ option_map Kept c ] ])
     go (Some r) e v f x g c h =
-        a_structure r.info (found_passes (λ (r : Relation). same_key r.info.key key) (λ (r : Relation). structure_stands r.info) db.relations r is.structures_stand e)
+        a_structure r.info (found_passes (λ (r : Relation). same_key r.info.key key) (λ (r : Relation). valid_structure r.info) db.relations r is.structures_stand e)
     go None e (Some v) f x g c h =
-        no_view v.info (found_passes (λ (v : View). same_key v.info.key key) (λ (v : View). view_info_stands v.info) db.views v is.view_infos_stand f)
+        no_view v.info (found_passes (λ (v : View). same_key v.info.key key) (λ (v : View). valid_view_info v.info) db.views v is.view_infos_stand f)
     go None e None f (Some x) g c h =
-        no_index db x (found_passes (λ (x : Index). same_key x.info.key key) (index_stands db) db.indexes x is.indexes_stand g)
+        no_index db x (found_passes (λ (x : Index). same_key x.info.key key) (valid_index db) db.indexes x is.indexes_stand g)
         ∙ ap (λ (c : Option Relation). keeps_rows (option_map Kept c)) (sym (indexed x e f g) ∙ h)
     go None e None f None g (Some c) h = a_catalogue db key c h
     go None e None f None g None h = refl

@@ -6,7 +6,7 @@ use Rattle.calculus.specs.declared.query.RelKey.{RelKey}
 use Rattle.calculus.specs.declared.query.Query.{Query}
 use Rattle.calculus.specs.declared.query.QAgg.{QAgg}
 use Rattle.calculus.specs.Database.{Db}
-use Rattle.calculus.specs.IsDatabase.{query_stands}
+use Rattle.calculus.specs.IsDatabase.{valid_query}
 use Rattle.calculus.specs.QueryParts.{vars_of}
 use Rattle.calculus.proofs.Forms.{rows_is}
 use Rattle.quel_meaning.specs.FitQueries.{has_few_targets, is_kept, kept_alone, slots_count_from, source_fits}
@@ -22,9 +22,9 @@ turned false true false d = refl
 turned false false c d = refl
 
 pub source_rows : (db : Db) (q : Query)
-    → source_fits (kept_alone db) db (Rows q) ≡ (nat_le (length (vars_of q)) 1 && (has_few_targets q && (list_all (is_kept db) (vars_of q) && query_stands db q)))
+    → source_fits (kept_alone db) db (Rows q) ≡ (nat_le (length (vars_of q)) 1 && (has_few_targets q && (list_all (is_kept db) (vars_of q) && valid_query db q)))
 unfolding source_fits
-source_rows db q = ap (source_fits (kept_alone db) db) (rows_is q) ∙ turned (list_all (is_kept db) (vars_of q)) (nat_le (length (vars_of q)) 1) (has_few_targets q) (query_stands db q)
+source_rows db q = ap (source_fits (kept_alone db) db) (rows_is q) ∙ turned (list_all (is_kept db) (vars_of q)) (nat_le (length (vars_of q)) 1) (has_few_targets q) (valid_query db q)
 
 -- a test of what items are made of
 pub all_mapped : {X Y : Type 0} (p : Y → Bool) (f : X → Y) (xs : List X) → list_all (λ x. p (f x)) xs ≡ list_all p (map f xs)

@@ -14,7 +14,7 @@ use Rattle.calculus.specs.declared.request.CopyCol.{CopyCol}
 use Rattle.calculus.specs.declared.request.Utility.{Utility}
 use Rattle.calculus.specs.declared.request.Utility.TheVariants as utility
 use Rattle.calculus.specs.Database.{Db}
-use Rattle.calculus.specs.IsDatabase.{are_stored, attrs_stand, keys_stand, query_stands, row_qual_stands, vars_are_there}
+use Rattle.calculus.specs.IsDatabase.{are_stored, attrs_stand, keys_stand, valid_query, valid_row_qual, vars_are_there}
 use Rattle.calculus.specs.Keys.{same_key}
 use Rattle.calculus.specs.Lists.{differ_by, is_any}
 use Rattle.calculus.specs.QueryParts.{targets_of, vars_of}
@@ -125,20 +125,20 @@ ten true true false true true true true false d = refl
 
 -- what the query of a new view must be, in another order
 pub viewed : (db : Db) (q : Query) → IsTrue (query_is_spelled q)
-    → (attrs_stand (map target_attr (targets_of q)) && (vars_are_there db q && (not (is_too_high (query_level db q)) && (query_stands db q && view_is_small db q)))) ≡ view_fits db q
+    → (attrs_stand (map target_attr (targets_of q)) && (vars_are_there db q && (not (is_too_high (query_level db q)) && (valid_query db q && view_is_small db q)))) ≡ view_fits db q
 unfolding view_fits view_is_small is_too_large
 viewed db q h =
-    ap (λ p. attrs_stand (map target_attr (targets_of q)) && (vars_are_there db q && (not (is_too_high (query_level db q)) && (query_stands db q
+    ap (λ p. attrs_stand (map target_attr (targets_of q)) && (vars_are_there db q && (not (is_too_high (query_level db q)) && (valid_query db q
     && (nat_le (length (vars_of q)) 50 && (nat_le (variables q) 10 && (nat_le (expanded_variables db q) 50 && (nat_le (query_size db q) 1000 && (nat_le (query_levels q) 3000 && p))))))))) h
-    ∙ ten (attrs_stand (map target_attr (targets_of q))) (vars_are_there db q) (is_too_high (query_level db q)) (query_stands db q) (nat_le (length (vars_of q)) 50) (nat_le (variables q) 10)
+    ∙ ten (attrs_stand (map target_attr (targets_of q))) (vars_are_there db q) (is_too_high (query_level db q)) (valid_query db q) (nat_le (length (vars_of q)) 50) (nat_le (variables q) 10)
     (nat_le (expanded_variables db q) 50) (nat_le (query_size db q) 1000) (nat_le (query_levels q) 3000)
-    ∙ (λ i. vars_are_there db q && (query_stands db q && (attrs_stand (map target_attr (targets_of q)) && (nat_le (length (vars_of q)) 50 && (nat_le (variables q) 10
+    ∙ (λ i. vars_are_there db q && (valid_query db q && (attrs_stand (map target_attr (targets_of q)) && (nat_le (length (vars_of q)) 50 && (nat_le (variables q) 10
     && (nat_le (expanded_variables db q) 50 && not (sym (no_more (query_size db q) 1000) i || (is_too_high (query_level db q) || sym (no_more (query_levels q) 3000) i))))))))
 
 -- a qualification over one row is small where it can be stored
 pub stored : (db : Db) (rel : RelKey) (q : QQual) → IsTrue (qual_is_spelled q)
-    → (can_be_ranged_over db rel && (row_qual_stands db rel q && row_qual_is_storable q)) ≡ row_qual_fits db rel q
-stored db rel q h = ap (λ b. can_be_ranged_over db rel && (row_qual_stands db rel q && b)) (also (row_qual_is_small q) (qual_is_spelled q) h)
+    → (can_be_ranged_over db rel && (valid_row_qual db rel q && row_qual_is_storable q)) ≡ row_qual_fits db rel q
+stored db rel q h = ap (λ b. can_be_ranged_over db rel && (valid_row_qual db rel q && b)) (also (row_qual_is_small q) (qual_is_spelled q) h)
   where
     also : (a b : Bool) → IsTrue b → (a && b) ≡ a
     also true b h = h

@@ -2,7 +2,7 @@
 
 ghost use Rattle.std.specs.Prelude.{◌≡◌, ◌≤◌, length, nat_le, nat_lt, true, IfOk, Some};
 ghost use Rattle.std.specs.List.{list_all};
-ghost use Rattle.am_traits.specs.Causes.{HasCause};
+ghost use Rattle.base_trait.specs.Causes.{HasCause};
 ghost use Rattle.calculus.specs.Database.{Db};
 ghost use Rattle.calculus.specs.QueryParts.{vars_of};
 ghost use Rattle.calculus.specs.Sizes.{expanded_variables};
@@ -10,13 +10,13 @@ ghost use Rattle.quel_meaning.specs.FitQueries.{asked_fits, kept_alone, sort_is_
 ghost use Rattle.view_sizes.specs.Listing.{sources_list_few};
 
 use crate::reading::reads_fit;
-use am_traits::{Base, BaseFault};
+use base_trait::{Base, BaseFault};
 use calculus::{Asked, Query, SortKey};
 use quel_refusals::query_fits;
 use std::alloc::Global;
 use view_sizes::expanded_variables;
 
-/// The variables of a query once the views in it are put in, at most.
+/// The variables of a query once the views in it are expanded, at most.
 const MOST_EXPANDED: u64 = 50;
 
 fn are_columns(sort: &[SortKey], most: usize) -> bool
@@ -34,9 +34,9 @@ fn sort_is_in_range(asked: &Asked) -> bool
     are_columns(asked.sort.items(), most)
 }
 
-/// Whether a query that lists few variables has few of them once the views in it are put in.
+/// Whether a query that lists few variables has few of them once the views in it are expanded.
 fn expands_little<B: Base>(alloc: Global, base: &mut B, q: &Query) -> Result<bool, BaseFault>
-    ensures told { (db : Db) → B.schema base.old ≡ Some db → length (vars_of q.now) ≤ 256 → sources_list_few q.now ≡ true → IfOk result (λ few. few ≡ nat_le (expanded_variables db q.now) 50) }
+    ensures known { (db : Db) → B.schema base.old ≡ Some db → length (vars_of q.now) ≤ 256 → sources_list_few q.now ≡ true → IfOk result (λ few. few ≡ nat_le (expanded_variables db q.now) 50) }
     ensures kept { B.database base.new ≡ B.database base.old }
     ensures stays { (s : Db) → B.schema base.old ≡ Some s → B.schema base.new ≡ Some s }
     ensures asked { (b : B) → B.asked b base.old → B.asked b base.new }
@@ -49,7 +49,7 @@ fn expands_little<B: Base>(alloc: Global, base: &mut B, q: &Query) -> Result<boo
 /// Whether a query that is asked is fit: what it reads, its kinds, its variables and its columns to sort
 /// by.
 fn asked_fits<B: Base>(alloc: Global, base: &mut B, asked: &Asked) -> Result<bool, BaseFault>
-    ensures told { (db : Db) → B.schema base.old ≡ Some db → IfOk result (λ fit. fit ≡ asked_fits (kept_alone db) db asked.now) }
+    ensures known { (db : Db) → B.schema base.old ≡ Some db → IfOk result (λ fit. fit ≡ asked_fits (kept_alone db) db asked.now) }
     ensures kept { B.database base.new ≡ B.database base.old }
     ensures stays { (s : Db) → B.schema base.old ≡ Some s → B.schema base.new ≡ Some s }
     ensures asked { (b : B) → B.asked b base.old → B.asked b base.new }
@@ -73,7 +73,7 @@ pub(crate) fn all_asked_fit<B: Base>(
     base: &mut B,
     asked: &[Asked],
 ) -> Result<bool, BaseFault>
-    ensures told { (db : Db) → B.schema base.old ≡ Some db → IfOk result (λ fit. fit ≡ list_all (asked_fits (kept_alone db) db) asked.now) }
+    ensures known { (db : Db) → B.schema base.old ≡ Some db → IfOk result (λ fit. fit ≡ list_all (asked_fits (kept_alone db) db) asked.now) }
     ensures kept { B.database base.new ≡ B.database base.old }
     ensures stays { (s : Db) → B.schema base.old ≡ Some s → B.schema base.new ≡ Some s }
     ensures asked { (b : B) → B.asked b base.old → B.asked b base.new }

@@ -3,13 +3,12 @@
 ghost use Rattle.std.specs.Prelude.{◌≡◌, ◌&&◌, length, map, nat_eq, nat_lt, not, slice_get};
 ghost use Rattle.std.specs.List.{list_all, list_any};
 ghost use Rattle.calculus.specs.Kinds.{is_text_kind};
-ghost use Rattle.calculus.specs.Lists.{differ_by, is_any};
+ghost use Rattle.calculus.specs.Lists.{differ_by};
 ghost use Rattle.quel_meaning.specs.Causes.{is_binary};
 ghost use Rattle.quel_meaning.specs.Columns.{is_copy_form};
 ghost use Rattle.tree_check.specs.Columned.{columns_are_fit};
 
-use calculus::{Attr, CopyCol, CopyForm, Kind};
-use quel_refusals::is_text_kind;
+use calculus::{Attr, CopyCol, CopyForm, Kind, is_text_kind};
 
 /// Whether a form of a column is one: 1, 2 or 4 bytes; 1 to 255 bytes; or up to a tab, a newline, a blank,
 /// a comma or a colon.

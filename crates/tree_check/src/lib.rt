@@ -3,13 +3,13 @@
 
 mod asking;
 mod columns;
-mod made;
 mod queries;
 mod reading;
 mod relations;
 mod slots;
 mod sources;
 mod standing;
+mod target_attributes;
 mod tree;
 mod updates;
 mod utilities;

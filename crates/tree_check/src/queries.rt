@@ -2,17 +2,17 @@
 
 ghost use Rattle.std.specs.Prelude.{◌≡◌, ◌&&◌, map, vec_items, IfOk, Some};
 ghost use Rattle.std.specs.List.{list_all};
-ghost use Rattle.am_traits.specs.Causes.{HasCause};
+ghost use Rattle.base_trait.specs.Causes.{HasCause};
 ghost use Rattle.calculus.specs.Database.{Db};
 ghost use Rattle.calculus.specs.IsDatabase.{is_kind, var_kinds};
 ghost use Rattle.calculus.specs.Kinds.{comparable};
 ghost use Rattle.quel_meaning.specs.Fit.{update_kinds_fit};
 ghost use Rattle.quel_meaning.specs.KindsInQueries.{kind_in_query};
 
-use am_traits::{Base, BaseFault};
-use calculus::{Kind, Query, Target};
+use base_trait::{Base, BaseFault};
+use calculus::{Kind, Query, Target, comparable};
 use change_check::is_kind;
-use quel_refusals::{comparable, kind_in_query, kinds_fit_in_query, var_kinds};
+use quel_refusals::{kind_in_query, kinds_fit_in_query, var_kinds};
 use std::alloc::Global;
 
 /// Whether the kinds of targets are ones.
@@ -29,7 +29,7 @@ fn targets_compare<B: Base>(
     targets: &[Target],
     vars: &[Vec<Kind>],
 ) -> Result<bool, BaseFault>
-    ensures told { (db : Db) → B.schema base.old ≡ Some db → IfOk result (λ fit. fit ≡ list_all (λ t. comparable (kind_in_query db t.term (map vec_items vars.now)) (Some t.kind)) targets.now) }
+    ensures known { (db : Db) → B.schema base.old ≡ Some db → IfOk result (λ fit. fit ≡ list_all (λ t. comparable (kind_in_query db t.term (map vec_items vars.now)) (Some t.kind)) targets.now) }
     ensures kept { B.database base.new ≡ B.database base.old }
     ensures stays { (s : Db) → B.schema base.old ≡ Some s → B.schema base.new ≡ Some s }
     ensures asked { (b : B) → B.asked b base.old → B.asked b base.new }
@@ -52,7 +52,7 @@ fn changes_fit_over<B: Base>(
     q: &Query,
     vars: &[Vec<Kind>],
 ) -> Result<bool, BaseFault>
-    ensures told { (db : Db) → B.schema base.old ≡ Some db → var_kinds db q.now ≡ map vec_items vars.now → IfOk result (λ fit. fit ≡ update_kinds_fit db q.now) }
+    ensures known { (db : Db) → B.schema base.old ≡ Some db → var_kinds db q.now ≡ map vec_items vars.now → IfOk result (λ fit. fit ≡ update_kinds_fit db q.now) }
     ensures kept { B.database base.new ≡ B.database base.old }
     ensures stays { (s : Db) → B.schema base.old ≡ Some s → B.schema base.new ≡ Some s }
     ensures asked { (b : B) → B.asked b base.old → B.asked b base.new }
@@ -75,7 +75,7 @@ pub(crate) fn update_kinds_fit<B: Base>(
     base: &mut B,
     q: &Query,
 ) -> Result<bool, BaseFault>
-    ensures told { (db : Db) → B.schema base.old ≡ Some db → IfOk result (λ fit. fit ≡ update_kinds_fit db q.now) }
+    ensures known { (db : Db) → B.schema base.old ≡ Some db → IfOk result (λ fit. fit ≡ update_kinds_fit db q.now) }
     ensures kept { B.database base.new ≡ B.database base.old }
     ensures stays { (s : Db) → B.schema base.old ≡ Some s → B.schema base.new ≡ Some s }
     ensures asked { (b : B) → B.asked b base.old → B.asked b base.new }

@@ -2,14 +2,14 @@
 
 ghost use Rattle.std.specs.Prelude.{◌≡◌, ◌&&◌, map, IfOk, Some};
 ghost use Rattle.std.specs.List.{list_all};
-ghost use Rattle.am_traits.specs.Causes.{HasCause};
+ghost use Rattle.base_trait.specs.Causes.{HasCause};
 ghost use Rattle.calculus.specs.Database.{Db};
 ghost use Rattle.calculus.specs.QueryParts.{vars_of};
 ghost use Rattle.quel_meaning.specs.FitQueries.{has_few_targets, is_kept, kept_alone, lists_few_vars, reads_fit, slots_count_from, slots_count_up, source_fits, sources_fit};
 
 use crate::slots::slots_count_up;
 use crate::sources::{all_sources_fit, has_few_targets, vars_are_kept};
-use am_traits::{Base, BaseFault};
+use base_trait::{Base, BaseFault};
 use calculus::{QAgg, Query};
 use std::alloc::Global;
 use view_sizes::aggregates_of;
@@ -37,7 +37,7 @@ fn aggregates_are_fit<B: Base>(
     base: &mut B,
     aggregates: &[&QAgg],
 ) -> Result<bool, BaseFault>
-    ensures told { (db : Db) → B.schema base.old ≡ Some db → IfOk result (λ fit. fit ≡ (slots_count_from 0 (map (λ g. g.now) aggregates.now) && list_all (λ g. source_fits (kept_alone db) db g.now.source) aggregates.now)) }
+    ensures known { (db : Db) → B.schema base.old ≡ Some db → IfOk result (λ fit. fit ≡ (slots_count_from 0 (map (λ g. g.now) aggregates.now) && list_all (λ g. source_fits (kept_alone db) db g.now.source) aggregates.now)) }
     ensures kept { B.database base.new ≡ B.database base.old }
     ensures stays { (s : Db) → B.schema base.old ≡ Some s → B.schema base.new ≡ Some s }
     ensures asked { (b : B) → B.asked b base.old → B.asked b base.new }
@@ -51,7 +51,7 @@ fn aggregates_are_fit<B: Base>(
 
 /// Whether a query's aggregates are numbered and may be over their sources.
 fn aggregates_fit<B: Base>(alloc: Global, base: &mut B, q: &Query) -> Result<bool, BaseFault>
-    ensures told { (db : Db) → B.schema base.old ≡ Some db → IfOk result (λ fit. fit ≡ (slots_count_up q.now && sources_fit (kept_alone db) db q.now)) }
+    ensures known { (db : Db) → B.schema base.old ≡ Some db → IfOk result (λ fit. fit ≡ (slots_count_up q.now && sources_fit (kept_alone db) db q.now)) }
     ensures kept { B.database base.new ≡ B.database base.old }
     ensures stays { (s : Db) → B.schema base.old ≡ Some s → B.schema base.new ≡ Some s }
     ensures asked { (b : B) → B.asked b base.old → B.asked b base.new }
@@ -64,7 +64,7 @@ fn aggregates_fit<B: Base>(alloc: Global, base: &mut B, q: &Query) -> Result<boo
 /// Whether what a query reads is base relations and catalogues, its aggregates are numbered, and its
 /// variables and targets are not too many.
 pub(crate) fn reads_fit<B: Base>(alloc: Global, base: &mut B, q: &Query) -> Result<bool, BaseFault>
-    ensures told { (db : Db) → B.schema base.old ≡ Some db → IfOk result (λ fit. fit ≡ reads_fit (kept_alone db) db q.now) }
+    ensures known { (db : Db) → B.schema base.old ≡ Some db → IfOk result (λ fit. fit ≡ reads_fit (kept_alone db) db q.now) }
     ensures kept { B.database base.new ≡ B.database base.old }
     ensures stays { (s : Db) → B.schema base.old ≡ Some s → B.schema base.new ≡ Some s }
     ensures asked { (b : B) → B.asked b base.old → B.asked b base.new }

@@ -1,16 +1,16 @@
 //! The relation that an update changes or makes.
 
 ghost use Rattle.std.specs.Prelude.{◌≡◌, ◌&&◌, map, nat_eq, slice_get, IfOk, Some};
-ghost use Rattle.am_traits.specs.Causes.{HasCause};
+ghost use Rattle.base_trait.specs.Causes.{HasCause};
 ghost use Rattle.calculus.specs.Database.{Db, is_relation};
 ghost use Rattle.calculus.specs.IsDatabase.{are_stored, attrs_stand};
 ghost use Rattle.calculus.specs.QueryParts.{targets_of, vars_of};
 ghost use Rattle.calculus.specs.Replacement.{made_attr};
 ghost use Rattle.quel_meaning.specs.Fit.{is_new, is_this_key, relation_fits};
 
-use crate::made::made_attrs_stand;
 use crate::standing::is_new;
-use am_traits::{Base, BaseFault};
+use crate::target_attributes::made_attrs_stand;
+use base_trait::{Base, BaseFault};
 use calculus::{RelKey, Update, UpdateOp};
 use change_check::{is_relation, same_key};
 use std::alloc::Global;
@@ -37,7 +37,7 @@ fn is_over_its_relation(u: &Update) -> bool
 
 /// Whether rows may be put into the relation.
 fn may_be_put<B: Base>(alloc: Global, base: &mut B, u: &Update) -> Result<bool, BaseFault>
-    ensures told { (db : Db) → B.schema base.old ≡ Some db → IfOk result (λ fit. fit ≡ (is_relation db u.now.rel && nat_eq u.now.old 255)) }
+    ensures known { (db : Db) → B.schema base.old ≡ Some db → IfOk result (λ fit. fit ≡ (is_relation db u.now.rel && nat_eq u.now.old 255)) }
     ensures kept { B.database base.new ≡ B.database base.old }
     ensures stays { (s : Db) → B.schema base.old ≡ Some s → B.schema base.new ≡ Some s }
     ensures asked { (b : B) → B.asked b base.old → B.asked b base.new }
@@ -51,7 +51,7 @@ fn may_be_put<B: Base>(alloc: Global, base: &mut B, u: &Update) -> Result<bool, 
 
 /// Whether rows of the relation may be replaced or deleted.
 fn may_be_changed<B: Base>(alloc: Global, base: &mut B, u: &Update) -> Result<bool, BaseFault>
-    ensures told { (db : Db) → B.schema base.old ≡ Some db → IfOk result (λ fit. fit ≡ (is_relation db u.now.rel && is_this_key (slice_get (vars_of u.now.query) u.now.old) u.now.rel)) }
+    ensures known { (db : Db) → B.schema base.old ≡ Some db → IfOk result (λ fit. fit ≡ (is_relation db u.now.rel && is_this_key (slice_get (vars_of u.now.query) u.now.old) u.now.rel)) }
     ensures kept { B.database base.new ≡ B.database base.old }
     ensures stays { (s : Db) → B.schema base.old ≡ Some s → B.schema base.new ≡ Some s }
     ensures asked { (b : B) → B.asked b base.old → B.asked b base.new }
@@ -65,7 +65,7 @@ fn may_be_changed<B: Base>(alloc: Global, base: &mut B, u: &Update) -> Result<bo
 
 /// Whether the relation may be made.
 fn may_be_made<B: Base>(alloc: Global, base: &mut B, u: &Update) -> Result<bool, BaseFault>
-    ensures told { (db : Db) → B.schema base.old ≡ Some db → IfOk result (λ fit. fit ≡ (nat_eq u.now.old 255 && (is_new db u.now.rel.owner u.now.rel.name && (attrs_stand (map made_attr (targets_of u.now.query)) && are_stored (map made_attr (targets_of u.now.query)))))) }
+    ensures known { (db : Db) → B.schema base.old ≡ Some db → IfOk result (λ fit. fit ≡ (nat_eq u.now.old 255 && (is_new db u.now.rel.owner u.now.rel.name && (attrs_stand (map made_attr (targets_of u.now.query)) && are_stored (map made_attr (targets_of u.now.query)))))) }
     ensures kept { B.database base.new ≡ B.database base.old }
     ensures stays { (s : Db) → B.schema base.old ≡ Some s → B.schema base.new ≡ Some s }
     ensures asked { (b : B) → B.asked b base.old → B.asked b base.new }
@@ -88,7 +88,7 @@ pub(crate) fn relation_fits<B: Base>(
     base: &mut B,
     u: &Update,
 ) -> Result<bool, BaseFault>
-    ensures told { (db : Db) → B.schema base.old ≡ Some db → IfOk result (λ fit. fit ≡ relation_fits db u.now) }
+    ensures known { (db : Db) → B.schema base.old ≡ Some db → IfOk result (λ fit. fit ≡ relation_fits db u.now) }
     ensures kept { B.database base.new ≡ B.database base.old }
     ensures stays { (s : Db) → B.schema base.old ≡ Some s → B.schema base.new ≡ Some s }
     ensures asked { (b : B) → B.asked b base.old → B.asked b base.new }

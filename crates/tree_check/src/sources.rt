@@ -2,16 +2,16 @@
 
 ghost use Rattle.std.specs.Prelude.{◌≡◌, ◌&&◌, length, nat_le, IfOk, Some};
 ghost use Rattle.std.specs.List.{list_all};
-ghost use Rattle.am_traits.specs.Causes.{HasCause};
+ghost use Rattle.base_trait.specs.Causes.{HasCause};
 ghost use Rattle.calculus.specs.Database.{Db};
-ghost use Rattle.calculus.specs.IsDatabase.{query_stands};
+ghost use Rattle.calculus.specs.IsDatabase.{valid_query};
 ghost use Rattle.calculus.specs.QueryParts.{vars_of};
 ghost use Rattle.quel_meaning.specs.FitQueries.{has_few_targets, is_kept, kept_alone, source_fits};
 
 use crate::standing::{are_kept, is_kept};
-use am_traits::{Base, BaseFault};
+use base_trait::{Base, BaseFault};
 use calculus::{AggSource, QAgg, Query};
-use change_check::query_stands;
+use change_check::valid_query;
 use std::alloc::Global;
 
 /// The targets that a query has at most.
@@ -37,7 +37,7 @@ pub(crate) fn vars_are_kept<B: Base>(
     base: &mut B,
     q: &Query,
 ) -> Result<bool, BaseFault>
-    ensures told { (db : Db) → B.schema base.old ≡ Some db → IfOk result (λ kept. kept ≡ list_all (is_kept db) (vars_of q.now)) }
+    ensures known { (db : Db) → B.schema base.old ≡ Some db → IfOk result (λ kept. kept ≡ list_all (is_kept db) (vars_of q.now)) }
     ensures kept { B.database base.new ≡ B.database base.old }
     ensures stays { (s : Db) → B.schema base.old ≡ Some s → B.schema base.new ≡ Some s }
     ensures asked { (b : B) → B.asked b base.old → B.asked b base.new }
@@ -48,7 +48,7 @@ pub(crate) fn vars_are_kept<B: Base>(
 
 /// Whether a query may be one whose rows an aggregate is over.
 fn rows_fit<B: Base>(alloc: Global, base: &mut B, q: &Query) -> Result<bool, BaseFault>
-    ensures told { (db : Db) → B.schema base.old ≡ Some db → IfOk result (λ fit. fit ≡ (nat_le (length (vars_of q.now)) 1 && (has_few_targets q.now && (list_all (is_kept db) (vars_of q.now) && query_stands db q.now)))) }
+    ensures known { (db : Db) → B.schema base.old ≡ Some db → IfOk result (λ fit. fit ≡ (nat_le (length (vars_of q.now)) 1 && (has_few_targets q.now && (list_all (is_kept db) (vars_of q.now) && valid_query db q.now)))) }
     ensures kept { B.database base.new ≡ B.database base.old }
     ensures stays { (s : Db) → B.schema base.old ≡ Some s → B.schema base.new ≡ Some s }
     ensures asked { (b : B) → B.asked b base.old → B.asked b base.new }
@@ -63,13 +63,13 @@ fn rows_fit<B: Base>(alloc: Global, base: &mut B, q: &Query) -> Result<bool, Bas
     if !vars_are_kept(alloc, base, q)? {
         return Ok(false);
     }
-    query_stands(alloc, base, q)
+    valid_query(alloc, base, q)
 }
 
 /// Whether an aggregate may be over a source.
 #[tactic(auto, using(crate::proofs::SourceParts::source_named, crate::proofs::SourceParts::source_rows))]
 fn source_fits<B: Base>(alloc: Global, base: &mut B, source: &AggSource) -> Result<bool, BaseFault>
-    ensures told { (db : Db) → B.schema base.old ≡ Some db → IfOk result (λ fit. fit ≡ source_fits (kept_alone db) db source.now) }
+    ensures known { (db : Db) → B.schema base.old ≡ Some db → IfOk result (λ fit. fit ≡ source_fits (kept_alone db) db source.now) }
     ensures kept { B.database base.new ≡ B.database base.old }
     ensures stays { (s : Db) → B.schema base.old ≡ Some s → B.schema base.new ≡ Some s }
     ensures asked { (b : B) → B.asked b base.old → B.asked b base.new }
@@ -87,7 +87,7 @@ pub(crate) fn all_sources_fit<B: Base>(
     base: &mut B,
     aggregates: &[&QAgg],
 ) -> Result<bool, BaseFault>
-    ensures told { (db : Db) → B.schema base.old ≡ Some db → IfOk result (λ fit. fit ≡ list_all (λ g. source_fits (kept_alone db) db g.now.source) aggregates.now) }
+    ensures known { (db : Db) → B.schema base.old ≡ Some db → IfOk result (λ fit. fit ≡ list_all (λ g. source_fits (kept_alone db) db g.now.source) aggregates.now) }
     ensures kept { B.database base.new ≡ B.database base.old }
     ensures stays { (s : Db) → B.schema base.old ≡ Some s → B.schema base.new ≡ Some s }
     ensures asked { (b : B) → B.asked b base.old → B.asked b base.new }

@@ -2,13 +2,13 @@
 
 ghost use Rattle.std.specs.Prelude.{◌≡◌, IfOk, Some};
 ghost use Rattle.std.specs.List.{list_all};
-ghost use Rattle.am_traits.specs.Causes.{HasCause};
+ghost use Rattle.base_trait.specs.Causes.{HasCause};
 ghost use Rattle.calculus.specs.Database.{Db};
 ghost use Rattle.quel_meaning.specs.Fit.{is_entry, is_new};
 ghost use Rattle.quel_meaning.specs.FitQueries.{can_be_ranged_over, is_kept};
 ghost use Rattle.tree_check.specs.Standing.{is_kept_info};
 
-use am_traits::{Base, BaseFault};
+use base_trait::{Base, BaseFault};
 use calculus::{Name, RelInfo, RelKey, Spec};
 use quel_names::info_at;
 use quel_refusals::{is_full, is_taken};
@@ -32,7 +32,7 @@ fn is_kept_info(info: &Option<RelInfo>) -> bool
 
 /// Whether a base relation or a catalogue stands under a key.
 pub(crate) fn is_kept<B: Base>(alloc: Global, base: &mut B, key: &RelKey) -> Result<bool, BaseFault>
-    ensures told { (db : Db) → B.schema base.old ≡ Some db → IfOk result (λ kept. kept ≡ is_kept db key.now) }
+    ensures known { (db : Db) → B.schema base.old ≡ Some db → IfOk result (λ kept. kept ≡ is_kept db key.now) }
     ensures kept { B.database base.new ≡ B.database base.old }
     ensures stays { (s : Db) → B.schema base.old ≡ Some s → B.schema base.new ≡ Some s }
     ensures asked { (b : B) → B.asked b base.old → B.asked b base.new }
@@ -48,7 +48,7 @@ pub(crate) fn are_kept<B: Base>(
     base: &mut B,
     keys: &[RelKey],
 ) -> Result<bool, BaseFault>
-    ensures told { (db : Db) → B.schema base.old ≡ Some db → IfOk result (λ kept. kept ≡ list_all (is_kept db) keys.now) }
+    ensures known { (db : Db) → B.schema base.old ≡ Some db → IfOk result (λ kept. kept ≡ list_all (is_kept db) keys.now) }
     ensures kept { B.database base.new ≡ B.database base.old }
     ensures stays { (s : Db) → B.schema base.old ≡ Some s → B.schema base.new ≡ Some s }
     ensures asked { (b : B) → B.asked b base.old → B.asked b base.new }
@@ -69,7 +69,7 @@ pub(crate) fn can_be_ranged_over<B: Base>(
     base: &mut B,
     key: &RelKey,
 ) -> Result<bool, BaseFault>
-    ensures told { (db : Db) → B.schema base.old ≡ Some db → IfOk result (λ there. there ≡ can_be_ranged_over db key.now) }
+    ensures known { (db : Db) → B.schema base.old ≡ Some db → IfOk result (λ there. there ≡ can_be_ranged_over db key.now) }
     ensures kept { B.database base.new ≡ B.database base.old }
     ensures stays { (s : Db) → B.schema base.old ≡ Some s → B.schema base.new ≡ Some s }
     ensures asked { (b : B) → B.asked b base.old → B.asked b base.new }
@@ -81,7 +81,7 @@ pub(crate) fn can_be_ranged_over<B: Base>(
 
 /// Whether a relation, a view, an index or a catalogue stands under a key.
 fn is_entry<B: Base>(alloc: Global, base: &mut B, key: &RelKey) -> Result<bool, BaseFault>
-    ensures told { (db : Db) → B.schema base.old ≡ Some db → IfOk result (λ there. there ≡ is_entry db key.now) }
+    ensures known { (db : Db) → B.schema base.old ≡ Some db → IfOk result (λ there. there ≡ is_entry db key.now) }
     ensures kept { B.database base.new ≡ B.database base.old }
     ensures stays { (s : Db) → B.schema base.old ≡ Some s → B.schema base.new ≡ Some s }
     ensures asked { (b : B) → B.asked b base.old → B.asked b base.new }
@@ -97,7 +97,7 @@ pub(crate) fn are_entries<B: Base>(
     base: &mut B,
     keys: &[RelKey],
 ) -> Result<bool, BaseFault>
-    ensures told { (db : Db) → B.schema base.old ≡ Some db → IfOk result (λ there. there ≡ list_all (is_entry db) keys.now) }
+    ensures known { (db : Db) → B.schema base.old ≡ Some db → IfOk result (λ there. there ≡ list_all (is_entry db) keys.now) }
     ensures kept { B.database base.new ≡ B.database base.old }
     ensures stays { (s : Db) → B.schema base.old ≡ Some s → B.schema base.new ≡ Some s }
     ensures asked { (b : B) → B.asked b base.old → B.asked b base.new }
@@ -119,7 +119,7 @@ pub(crate) fn is_new<B: Base>(
     owner: &Name,
     name: &Name,
 ) -> Result<bool, BaseFault>
-    ensures told { (db : Db) → B.schema base.old ≡ Some db → IfOk result (λ free. free ≡ is_new db owner.now name.now) }
+    ensures known { (db : Db) → B.schema base.old ≡ Some db → IfOk result (λ free. free ≡ is_new db owner.now name.now) }
     ensures kept { B.database base.new ≡ B.database base.old }
     ensures stays { (s : Db) → B.schema base.old ≡ Some s → B.schema base.new ≡ Some s }
     ensures asked { (b : B) → B.asked b base.old → B.asked b base.new }

@@ -1,7 +1,7 @@
 //! Trees.
 
 ghost use Rattle.std.specs.Prelude.{◌≡◌, IfOk, IsTrue, Some};
-ghost use Rattle.am_traits.specs.Causes.{HasCause};
+ghost use Rattle.base_trait.specs.Causes.{HasCause};
 ghost use Rattle.calculus.specs.Database.{Db};
 ghost use Rattle.calculus.specs.declared.request.Checked.TheVariants as checked;
 ghost use Rattle.quel_meaning.specs.Fit.{is_fit, suits};
@@ -11,7 +11,7 @@ ghost use Rattle.update_laws.specs.Walked.{names_rights};
 use crate::asking::all_asked_fit;
 use crate::updates::update_fits;
 use crate::utilities::utility_fits;
-use am_traits::{Base, BaseFault};
+use base_trait::{Base, BaseFault};
 use calculus::{Checked, Name, Utility};
 use std::alloc::Global;
 use update_laws::tree_is_spelled;
@@ -47,7 +47,7 @@ fn suits<B: Base>(
     user: &Name,
     tree: &Checked,
 ) -> Result<bool, BaseFault>
-    ensures told { (db : Db) → B.schema base.old ≡ Some db → IfOk result (λ fit. fit ≡ suits (kept_alone db) db user.now tree.now) }
+    ensures known { (db : Db) → B.schema base.old ≡ Some db → IfOk result (λ fit. fit ≡ suits (kept_alone db) db user.now tree.now) }
     ensures kept { B.database base.new ≡ B.database base.old }
     ensures stays { (s : Db) → B.schema base.old ≡ Some s → B.schema base.new ≡ Some s }
     ensures asked { (b : B) → B.asked b base.old → B.asked b base.new }
@@ -70,7 +70,7 @@ pub fn fit_tree<B: Base>(
     user: &Name,
     base: &mut B,
 ) -> Result<bool, BaseFault>
-    ensures told { (db : Db) → B.schema base.old ≡ Some db → IfOk result (λ fit. fit ≡ is_fit db user.now c.now) }
+    ensures known { (db : Db) → B.schema base.old ≡ Some db → IfOk result (λ fit. fit ≡ is_fit db user.now c.now) }
     ensures by_schema { IsTrue B.fixes → (s : Db) → B.schema base.new ≡ Some s → IfOk result (λ fit. fit ≡ is_fit s user.now c.now) }
     ensures kept { B.database base.new ≡ B.database base.old }
     ensures stays { (s : Db) → B.schema base.old ≡ Some s → B.schema base.new ≡ Some s }

@@ -2,7 +2,7 @@
 
 ghost use Rattle.std.specs.Prelude.{◌≡◌, ◌≤◌, ◌&&◌, map, length, nat_eq, nat_le, slice_get, true, vec_items, zip, IfOk, Some, ◌∷◌, []};
 ghost use Rattle.std.specs.List.{list_all};
-ghost use Rattle.am_traits.specs.Causes.{HasCause};
+ghost use Rattle.base_trait.specs.Causes.{HasCause};
 ghost use Rattle.calculus.specs.Database.{Db};
 ghost use Rattle.calculus.specs.Kinds.{comparable, kinds_fit};
 ghost use Rattle.calculus.specs.QueryParts.{targets_of, vars_of};
@@ -16,14 +16,15 @@ ghost use Rattle.view_sizes.specs.Listing.{sources_list_few};
 use crate::queries::update_kinds_fit;
 use crate::reading::reads_fit;
 use crate::relations::relation_fits;
-use am_traits::{Base, BaseFault};
+use base_trait::{Base, BaseFault};
 use calculus::{Kind, OutOfMemory, QQual, Update, UpdateOp, kinds_fit};
 use change_check::{are_places, places_differ};
-use quel_refusals::{assignments_fit, kinds_at, made_kinds};
+use ovqp::kinds_at;
+use quel_refusals::{assignments_fit, made_kinds};
 use std::alloc::Global;
 use view_sizes::update_expanded_variables;
 
-/// The variables of an update once the views in it are put in, at most.
+/// The variables of an update once the views in it are expanded, at most.
 const MOST_EXPANDED: u64 = 50;
 
 /// The kinds of the attributes of the relation that an update makes.
@@ -37,7 +38,7 @@ fn kinds_made(alloc: Global, u: &Update) -> Result<Vec<Kind>, OutOfMemory>
 /// The kinds of the attributes of the new rows of an update.
 #[tactic(auto, using(crate::proofs::RelationForms::made_kinds))]
 fn new_kinds<B: Base>(alloc: Global, base: &mut B, u: &Update) -> Result<Vec<Kind>, BaseFault>
-    ensures told { (db : Db) → B.schema base.old ≡ Some db → IfOk result (λ kinds. kinds.items ≡ map (λ a. a.kind) (new_attrs db u.now)) }
+    ensures known { (db : Db) → B.schema base.old ≡ Some db → IfOk result (λ kinds. kinds.items ≡ map (λ a. a.kind) (new_attrs db u.now)) }
     ensures kept { B.database base.new ≡ B.database base.old }
     ensures stays { (s : Db) → B.schema base.old ≡ Some s → B.schema base.new ≡ Some s }
     ensures asked { (b : B) → B.asked b base.old → B.asked b base.new }
@@ -129,7 +130,7 @@ fn rows_fit(alloc: Global, u: &Update, kinds: Vec<Kind>) -> Result<bool, OutOfMe
 /// Whether the new rows of an update fit: the targets the attributes that they are for, their places, and
 /// what must hold of them.
 fn new_rows_fit<B: Base>(alloc: Global, base: &mut B, u: &Update) -> Result<bool, BaseFault>
-    ensures told { (db : Db) → B.schema base.old ≡ Some db → IfOk result (λ fit. fit ≡ (assignments_fit db u.now && (places_fit db u.now && checks_fit db u.now))) }
+    ensures known { (db : Db) → B.schema base.old ≡ Some db → IfOk result (λ fit. fit ≡ (assignments_fit db u.now && (places_fit db u.now && checks_fit db u.now))) }
     ensures kept { B.database base.new ≡ B.database base.old }
     ensures stays { (s : Db) → B.schema base.old ≡ Some s → B.schema base.new ≡ Some s }
     ensures asked { (b : B) → B.asked b base.old → B.asked b base.new }
@@ -139,9 +140,9 @@ fn new_rows_fit<B: Base>(alloc: Global, base: &mut B, u: &Update) -> Result<bool
     Ok(rows_fit(alloc, u, kinds)?)
 }
 
-/// Whether an update that lists few variables has few of them once the views in it are put in.
+/// Whether an update that lists few variables has few of them once the views in it are expanded.
 fn expands_little<B: Base>(alloc: Global, base: &mut B, u: &Update) -> Result<bool, BaseFault>
-    ensures told { (db : Db) → B.schema base.old ≡ Some db → length (vars_of u.now.query) ≤ 256 → sources_list_few u.now.query ≡ true → IfOk result (λ few. few ≡ nat_le (update_expanded_variables db u.now) 50) }
+    ensures known { (db : Db) → B.schema base.old ≡ Some db → length (vars_of u.now.query) ≤ 256 → sources_list_few u.now.query ≡ true → IfOk result (λ few. few ≡ nat_le (update_expanded_variables db u.now) 50) }
     ensures kept { B.database base.new ≡ B.database base.old }
     ensures stays { (s : Db) → B.schema base.old ≡ Some s → B.schema base.new ≡ Some s }
     ensures asked { (b : B) → B.asked b base.old → B.asked b base.new }
@@ -153,7 +154,7 @@ fn expands_little<B: Base>(alloc: Global, base: &mut B, u: &Update) -> Result<bo
 
 /// Whether the new rows of an update fit, and what it changes or makes.
 fn change_fits<B: Base>(alloc: Global, base: &mut B, u: &Update) -> Result<bool, BaseFault>
-    ensures told { (db : Db) → B.schema base.old ≡ Some db → IfOk result (λ fit. fit ≡ ((assignments_fit db u.now && (places_fit db u.now && checks_fit db u.now)) && relation_fits db u.now)) }
+    ensures known { (db : Db) → B.schema base.old ≡ Some db → IfOk result (λ fit. fit ≡ ((assignments_fit db u.now && (places_fit db u.now && checks_fit db u.now)) && relation_fits db u.now)) }
     ensures kept { B.database base.new ≡ B.database base.old }
     ensures stays { (s : Db) → B.schema base.old ≡ Some s → B.schema base.new ≡ Some s }
     ensures asked { (b : B) → B.asked b base.old → B.asked b base.new }
@@ -172,7 +173,7 @@ pub(crate) fn update_fits<B: Base>(
     base: &mut B,
     u: &Update,
 ) -> Result<bool, BaseFault>
-    ensures told { (db : Db) → B.schema base.old ≡ Some db → IfOk result (λ fit. fit ≡ update_fits (kept_alone db) db u.now) }
+    ensures known { (db : Db) → B.schema base.old ≡ Some db → IfOk result (λ fit. fit ≡ update_fits (kept_alone db) db u.now) }
     ensures kept { B.database base.new ≡ B.database base.old }
     ensures stays { (s : Db) → B.schema base.old ≡ Some s → B.schema base.new ≡ Some s }
     ensures asked { (b : B) → B.asked b base.old → B.asked b base.new }

@@ -2,7 +2,7 @@
 
 ghost use Rattle.std.specs.Prelude.{◌≡◌, ◌&&◌, IfOk, Some};
 ghost use Rattle.std.specs.List.{list_all};
-ghost use Rattle.am_traits.specs.Causes.{HasCause};
+ghost use Rattle.base_trait.specs.Causes.{HasCause};
 ghost use Rattle.calculus.specs.Database.{Db};
 ghost use Rattle.calculus.specs.IsDatabase.{are_stored, attrs_stand, keys_stand};
 ghost use Rattle.calculus.specs.Keys.{same_key};
@@ -15,7 +15,7 @@ ghost use Rattle.quel_meaning.specs.FitQueries.{can_be_ranged_over};
 use crate::columns::columns_fit;
 use crate::standing::{are_entries, can_be_ranged_over, is_new};
 use crate::views::{new_view_fits, permit_fits, row_qual_fits};
-use am_traits::{Base, BaseFault};
+use base_trait::{Base, BaseFault};
 use calculus::{Attr, CopyCol, Name, RelKey, Spec, Utility};
 use change_check::{keys_differ, keys_stand, relation_attrs_stand, some_keys_stand};
 use quel_names::info_at;
@@ -28,7 +28,7 @@ fn relation_is_new<B: Base>(
     rel: &RelKey,
     attrs: &[Attr],
 ) -> Result<bool, BaseFault>
-    ensures told { (db : Db) → B.schema base.old ≡ Some db → IfOk result (λ fit. fit ≡ (is_new db rel.now.owner rel.now.name && (attrs_stand attrs.now && are_stored attrs.now))) }
+    ensures known { (db : Db) → B.schema base.old ≡ Some db → IfOk result (λ fit. fit ≡ (is_new db rel.now.owner rel.now.name && (attrs_stand attrs.now && are_stored attrs.now))) }
     ensures kept { B.database base.new ≡ B.database base.old }
     ensures stays { (s : Db) → B.schema base.old ≡ Some s → B.schema base.new ≡ Some s }
     ensures asked { (b : B) → B.asked b base.old → B.asked b base.new }
@@ -42,7 +42,7 @@ fn relation_is_new<B: Base>(
 
 /// Whether these may be taken away.
 fn may_go<B: Base>(alloc: Global, base: &mut B, rels: &[RelKey]) -> Result<bool, BaseFault>
-    ensures told { (db : Db) → B.schema base.old ≡ Some db → IfOk result (λ fit. fit ≡ (list_all (is_entry db) rels.now && differ_by same_key rels.now)) }
+    ensures known { (db : Db) → B.schema base.old ≡ Some db → IfOk result (λ fit. fit ≡ (list_all (is_entry db) rels.now && differ_by same_key rels.now)) }
     ensures kept { B.database base.new ≡ B.database base.old }
     ensures stays { (s : Db) → B.schema base.old ≡ Some s → B.schema base.new ≡ Some s }
     ensures asked { (b : B) → B.asked b base.old → B.asked b base.new }
@@ -75,7 +75,7 @@ fn may_be_stored<B: Base>(
     to: Spec,
     keys: &[u8],
 ) -> Result<bool, BaseFault>
-    ensures told { (db : Db) → B.schema base.old ≡ Some db → IfOk result (λ fit. fit ≡ (can_be_ranged_over db rel.now && (is_structure to && keys_stand (attrs_at db rel.now) keys.now))) }
+    ensures known { (db : Db) → B.schema base.old ≡ Some db → IfOk result (λ fit. fit ≡ (can_be_ranged_over db rel.now && (is_structure to && keys_stand (attrs_at db rel.now) keys.now))) }
     ensures kept { B.database base.new ≡ B.database base.old }
     ensures stays { (s : Db) → B.schema base.old ≡ Some s → B.schema base.new ≡ Some s }
     ensures asked { (b : B) → B.asked b base.old → B.asked b base.new }
@@ -94,7 +94,7 @@ fn may_be_indexed<B: Base>(
     rel: &RelKey,
     keys: &[u8],
 ) -> Result<bool, BaseFault>
-    ensures told { (db : Db) → B.schema base.old ≡ Some db → IfOk result (λ fit. fit ≡ (can_be_ranged_over db rel.now && (is_any keys.now && keys_stand (attrs_at db rel.now) keys.now))) }
+    ensures known { (db : Db) → B.schema base.old ≡ Some db → IfOk result (λ fit. fit ≡ (can_be_ranged_over db rel.now && (is_any keys.now && keys_stand (attrs_at db rel.now) keys.now))) }
     ensures kept { B.database base.new ≡ B.database base.old }
     ensures stays { (s : Db) → B.schema base.old ≡ Some s → B.schema base.new ≡ Some s }
     ensures asked { (b : B) → B.asked b base.old → B.asked b base.new }
@@ -115,7 +115,7 @@ fn index_is_new<B: Base>(
     name: &Name,
     keys: &[u8],
 ) -> Result<bool, BaseFault>
-    ensures told { (db : Db) → B.schema base.old ≡ Some db → IfOk result (λ fit. fit ≡ (can_be_ranged_over db rel.now && (is_new db user.now name.now && (is_any keys.now && keys_stand (attrs_at db rel.now) keys.now)))) }
+    ensures known { (db : Db) → B.schema base.old ≡ Some db → IfOk result (λ fit. fit ≡ (can_be_ranged_over db rel.now && (is_new db user.now name.now && (is_any keys.now && keys_stand (attrs_at db rel.now) keys.now)))) }
     ensures kept { B.database base.new ≡ B.database base.old }
     ensures stays { (s : Db) → B.schema base.old ≡ Some s → B.schema base.new ≡ Some s }
     ensures asked { (b : B) → B.asked b base.old → B.asked b base.new }
@@ -134,7 +134,7 @@ fn may_be_copied<B: Base>(
     rel: &RelKey,
     columns: &[CopyCol],
 ) -> Result<bool, BaseFault>
-    ensures told { (db : Db) → B.schema base.old ≡ Some db → IfOk result (λ fit. fit ≡ (can_be_ranged_over db rel.now && columns_fit db rel.now columns.now)) }
+    ensures known { (db : Db) → B.schema base.old ≡ Some db → IfOk result (λ fit. fit ≡ (can_be_ranged_over db rel.now && columns_fit db rel.now columns.now)) }
     ensures kept { B.database base.new ≡ B.database base.old }
     ensures stays { (s : Db) → B.schema base.old ≡ Some s → B.schema base.new ≡ Some s }
     ensures asked { (b : B) → B.asked b base.old → B.asked b base.new }
@@ -155,7 +155,7 @@ pub(crate) fn utility_fits<B: Base>(
     user: &Name,
     work: &Utility,
 ) -> Result<bool, BaseFault>
-    ensures told { (db : Db) → B.schema base.old ≡ Some db → IfOk result (λ fit. fit ≡ utility_fits db user.now work.now) }
+    ensures known { (db : Db) → B.schema base.old ≡ Some db → IfOk result (λ fit. fit ≡ utility_fits db user.now work.now) }
     ensures kept { B.database base.new ≡ B.database base.old }
     ensures stays { (s : Db) → B.schema base.old ≡ Some s → B.schema base.new ≡ Some s }
     ensures asked { (b : B) → B.asked b base.old → B.asked b base.new }

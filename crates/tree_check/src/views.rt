@@ -1,13 +1,13 @@
 //! Views, and qualifications over one row, that are to be stored.
 
 ghost use Rattle.std.specs.Prelude.{◌≡◌, ◌&&◌, IfOk, Some};
-ghost use Rattle.am_traits.specs.Causes.{HasCause};
+ghost use Rattle.base_trait.specs.Causes.{HasCause};
 ghost use Rattle.calculus.specs.Database.{Db};
 ghost use Rattle.quel_meaning.specs.Fit.{is_new, listed_attrs_fit, row_qual_fits, view_fits};
 
-use crate::made::target_attrs_stand;
 use crate::standing::{can_be_ranged_over, is_new};
-use am_traits::{Base, BaseFault};
+use crate::target_attributes::target_attrs_stand;
+use base_trait::{Base, BaseFault};
 use calculus::{Permit, QQual, Query, RelKey};
 use change_check::{attrs_are_places, row_qual_is_fit, view_query_is_fit};
 use std::alloc::Global;
@@ -19,7 +19,7 @@ const MOST_LISTED: usize = 65_535;
 /// Whether the query of a new view is fit: what it names is there, its kinds fit and no aggregate stands;
 /// its attributes, variables, size and level are within the limits.
 fn view_fits<B: Base>(alloc: Global, base: &mut B, q: &Query) -> Result<bool, BaseFault>
-    ensures told { (db : Db) → B.schema base.old ≡ Some db → IfOk result (λ fit. fit ≡ view_fits db q.now) }
+    ensures known { (db : Db) → B.schema base.old ≡ Some db → IfOk result (λ fit. fit ≡ view_fits db q.now) }
     ensures kept { B.database base.new ≡ B.database base.old }
     ensures stays { (s : Db) → B.schema base.old ≡ Some s → B.schema base.new ≡ Some s }
     ensures asked { (b : B) → B.asked b base.old → B.asked b base.new }
@@ -39,7 +39,7 @@ pub(crate) fn new_view_fits<B: Base>(
     rel: &RelKey,
     q: &Query,
 ) -> Result<bool, BaseFault>
-    ensures told { (db : Db) → B.schema base.old ≡ Some db → IfOk result (λ fit. fit ≡ (is_new db rel.now.owner rel.now.name && view_fits db q.now)) }
+    ensures known { (db : Db) → B.schema base.old ≡ Some db → IfOk result (λ fit. fit ≡ (is_new db rel.now.owner rel.now.name && view_fits db q.now)) }
     ensures kept { B.database base.new ≡ B.database base.old }
     ensures stays { (s : Db) → B.schema base.old ≡ Some s → B.schema base.new ≡ Some s }
     ensures asked { (b : B) → B.asked b base.old → B.asked b base.new }
@@ -59,7 +59,7 @@ pub(crate) fn row_qual_fits<B: Base>(
     rel: &RelKey,
     qual: &QQual,
 ) -> Result<bool, BaseFault>
-    ensures told { (db : Db) → B.schema base.old ≡ Some db → IfOk result (λ fit. fit ≡ row_qual_fits db rel.now qual.now) }
+    ensures known { (db : Db) → B.schema base.old ≡ Some db → IfOk result (λ fit. fit ≡ row_qual_fits db rel.now qual.now) }
     ensures kept { B.database base.new ≡ B.database base.old }
     ensures stays { (s : Db) → B.schema base.old ≡ Some s → B.schema base.new ≡ Some s }
     ensures asked { (b : B) → B.asked b base.old → B.asked b base.new }
@@ -79,7 +79,7 @@ fn listed_attrs_fit<B: Base>(
     rel: &RelKey,
     permit: &Permit,
 ) -> Result<bool, BaseFault>
-    ensures told { (db : Db) → B.schema base.old ≡ Some db → IfOk result (λ fit. fit ≡ listed_attrs_fit db rel.now permit.now) }
+    ensures known { (db : Db) → B.schema base.old ≡ Some db → IfOk result (λ fit. fit ≡ listed_attrs_fit db rel.now permit.now) }
     ensures kept { B.database base.new ≡ B.database base.old }
     ensures stays { (s : Db) → B.schema base.old ≡ Some s → B.schema base.new ≡ Some s }
     ensures asked { (b : B) → B.asked b base.old → B.asked b base.new }
@@ -99,7 +99,7 @@ pub(crate) fn permit_fits<B: Base>(
     rel: &RelKey,
     permit: &Permit,
 ) -> Result<bool, BaseFault>
-    ensures told { (db : Db) → B.schema base.old ≡ Some db → IfOk result (λ fit. fit ≡ (row_qual_fits db rel.now permit.now.qual && listed_attrs_fit db rel.now permit.now)) }
+    ensures known { (db : Db) → B.schema base.old ≡ Some db → IfOk result (λ fit. fit ≡ (row_qual_fits db rel.now permit.now.qual && listed_attrs_fit db rel.now permit.now)) }
     ensures kept { B.database base.new ≡ B.database base.old }
     ensures stays { (s : Db) → B.schema base.old ≡ Some s → B.schema base.new ≡ Some s }
     ensures asked { (b : B) → B.asked b base.old → B.asked b base.new }

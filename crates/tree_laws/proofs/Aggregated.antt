@@ -1,4 +1,4 @@
--- An aggregate with texts put in gives for nobody in particular what the aggregate gives for the one who asks.
+-- An aggregate with expansions substituted gives unrestricted what the aggregate gives for the one who asks.
 use Rattle.std.proofs.Common.{◌≡◌, refl, sym, ap, ◌∙◌, ℕ, ◌-◌, Bool, true, false, cond, not, ◌&&◌, List, [], ◌∷◌, map, Option, Some, None, arith}
 use Rattle.std.proofs.lemmas.Bool.Decides.{nat_tests}
 use Rattle.std.specs.Prelude.{filter, nat_eq, bytes_eq, if◌then◌else◌, option_map, pos}
@@ -23,7 +23,7 @@ use Rattle.calculus.specs.Kinds.{kind_of, is_text_kind}
 use Rattle.calculus.specs.Limits.{greatest_level}
 use Rattle.calculus.specs.Rows.{Row}
 use Rattle.calculus.specs.Term.{Env, Aggs, val, holds, no_aggs, values_of, value_before}
-use Rattle.calculus.specs.Who.{Who, Free}
+use Rattle.calculus.specs.Who.{Who, Unrestricted}
 use Rattle.calculus.specs.Database.{Db, View}
 use Rattle.calculus.specs.IsDatabase.{IsDatabase, same_domain, same_kind, attrs_are_targets}
 use Rattle.calculus.specs.Stored.{Range, Kept, Viewed, range_info, range_at, info_at, attrs_in, kinds_at, rows_at, kept_rows}
@@ -36,26 +36,26 @@ use Rattle.calculus.specs.VariableRows.{range_rows, rows_within, rows_of}
 use Rattle.calculus.specs.Aggregate.{source_rows, agree, folded_rows, arguments, source_kinds, none_value, fold_values, fold_arguments, fold_linked, aggregates}
 use Rattle.calculus_laws.specs.Expansion.{is_no_view}
 use Rattle.calculus_laws.proofs.SameRows.{all_at}
-use Rattle.calculus_laws.proofs.Through.{told_view, told_at, rows_told}
+use Rattle.calculus_laws.proofs.Through.{said_view, said_at, rows_said}
 use Rattle.calculus_laws.proofs.ViewAnswer.{found}
-use Rattle.view_text.specs.Replaced.{Putting, replaced, replaced_target, no_aggregate}
+use Rattle.view_text.specs.Replaced.{Substitution, replaced, replaced_target, no_aggregate}
 use Rattle.view_text.specs.Halves.{all_of}
-use Rattle.view_text.specs.Texts.{put_from, query_texts}
-use Rattle.view_text.specs.TextOf.{cut, text_within, text_of}
-use Rattle.view_text.specs.PutIn.{put_plain, put_range, put_source, range_cut, source_cut, put_aggregate}
+use Rattle.view_text.specs.Expansions.{substituted_from, query_expansions}
+use Rattle.view_text.specs.ExpansionOf.{restriction, expansion_within, expansion_of}
+use Rattle.view_text.specs.Expanded.{expanded_plain, expanded_range, expanded_source, range_restriction, source_restriction, expanded_aggregate}
 use Rattle.tree_laws.specs.Nesting.{source_is_plain}
 use Rattle.tree_laws.proofs.Values.{StandsFor, makes_none, val_replaced, within_itself}
 use Rattle.tree_laws.proofs.Halves.{holds_all_of}
 use Rattle.tree_laws.proofs.Scopes.{both_true}
 use Rattle.tree_laws.proofs.Queries.{targets_of-put}
-use Rattle.tree_laws.proofs.Told.{cut_holds}
-use Rattle.tree_laws.proofs.Sound.{viewed, plain_view, free_rows}
-use Rattle.tree_laws.proofs.Freely.{plain_put}
-use Rattle.calculus.specs.declared.value.Value.TheVariants.{Text, Int}
+use Rattle.tree_laws.proofs.Denoted.{restriction_holds}
+use Rattle.tree_laws.proofs.Sound.{viewed, plain_view, unrestricted_rows}
+use Rattle.tree_laws.proofs.Unrestrictedly.{plain_put}
+use Rattle.calculus.specs.declared.value.Value.TheVariants.{Expansion, Int}
 
 -- ---- links
 
-links_put : (put : Putting) (e f : Env) → StandsFor put f e → (ts : List QTerm) → values_of (map (replaced no_aggregate put) ts) f ≡ values_of ts e
+links_put : (put : Substitution) (e f : Env) → StandsFor put f e → (ts : List QTerm) → values_of (map (replaced no_aggregate put) ts) f ≡ values_of ts e
 unfolding values_of
 links_put put e f stands [] = refl
 links_put put e f stands (t ∷ ts) = λ i. value_before
@@ -121,7 +121,7 @@ kinds_are (a ∷ attrs) (t ∷ ts) h =
     let more = both_true (same_kind a.kind t.kind) (attrs_are_targets attrs ts) parts.1 in
     λ i. kind_is a.kind t.kind more.0 i ∷ kinds_are attrs ts more.1 i
 
-pub kinds_put : (made : QTerm → QTerm) (put : Putting) (ts : List Target) → map (λ t. t.kind) (map (replaced_target made put) ts) ≡ map (λ t. t.kind) ts
+pub kinds_put : (made : QTerm → QTerm) (put : Substitution) (ts : List Target) → map (λ t. t.kind) (map (replaced_target made put) ts) ≡ map (λ t. t.kind) ts
 kinds_put made put [] = refl
 kinds_put made put (t ∷ ts) = ap (λ ks. t.kind ∷ ks) (kinds_put made put ts)
 
@@ -149,14 +149,14 @@ module _ (db : Db) (d : IsDatabase db) (who : Who) where
 
     -- another source, with these conditions beside the qualification, has the same rows to fold and the same kinds
     pub record FoldsAs (source other : AggSource) (conditions : List QQual) : Type 0 where
-      pub folded : (used : List ℕ) (link : Row) → filter (is_folded (all_of (qual ∷ conditions)) link) (source_rows (rows_of db Free) used other)
+      pub folded : (used : List ℕ) (link : Row) → filter (is_folded (all_of (qual ∷ conditions)) link) (source_rows (rows_of db Unrestricted) used other)
           ≡ filter (is_folded qual link) (source_rows (rows_of db who) attrs source)
       pub kinds : source_kinds db other ≡ source_kinds db source
 
-    with_cut : (key : RelKey) (link s : Row) → is_folded (all_of (qual ∷ cut db who Retrieve attrs key)) link s ≡ (may db who Retrieve attrs key s && is_folded qual link s)
-    with_cut key link s =
-        ap (λ b. b && agree link (values_of by (s ∷ []))) (holds_all_of no_aggs (s ∷ []) (qual ∷ cut db who Retrieve attrs key))
-        ∙ ap (λ b. (holds no_aggs qual (s ∷ []) && b) && agree link (values_of by (s ∷ []))) (cut_holds db who Retrieve attrs key s)
+    with_restriction : (key : RelKey) (link s : Row) → is_folded (all_of (qual ∷ restriction db who Retrieve attrs key)) link s ≡ (may db who Retrieve attrs key s && is_folded qual link s)
+    with_restriction key link s =
+        ap (λ b. b && agree link (values_of by (s ∷ []))) (holds_all_of no_aggs (s ∷ []) (qual ∷ restriction db who Retrieve attrs key))
+        ∙ ap (λ b. (holds no_aggs qual (s ∷ []) && b) && agree link (values_of by (s ∷ []))) (restriction_holds db who Retrieve attrs key s)
         ∙ swapped (holds no_aggs qual (s ∷ [])) (may db who Retrieve attrs key s) (agree link (values_of by (s ∷ [])))
 
     alone : (link s : Row) → is_folded (all_of (qual ∷ [])) link s ≡ is_folded qual link s
@@ -168,75 +168,75 @@ module _ (db : Db) (d : IsDatabase db) (who : Who) where
         true_right false = refl
 
     kept_folds : (key : RelKey) → is_no_view (range_at db key) ≡ true → rows_of db who key attrs ≡ filter (may db who Retrieve attrs key) (rows_at db key)
-        → FoldsAs (Named key) (Named key) (cut db who Retrieve attrs key)
+        → FoldsAs (Named key) (Named key) (restriction db who Retrieve attrs key)
     kept_folds key kept rows = record {
       folded = λ used link.
-          ap (filter (is_folded (all_of (qual ∷ cut db who Retrieve attrs key)) link)) (free_rows db key used kept)
-          ∙ filter_twice (is_folded qual link) (may db who Retrieve attrs key) (is_folded (all_of (qual ∷ cut db who Retrieve attrs key)) link) (rows_at db key) (with_cut key link)
+          ap (filter (is_folded (all_of (qual ∷ restriction db who Retrieve attrs key)) link)) (unrestricted_rows db key used kept)
+          ∙ filter_twice (is_folded qual link) (may db who Retrieve attrs key) (is_folded (all_of (qual ∷ restriction db who Retrieve attrs key)) link) (rows_at db key) (with_restriction key link)
           ∙ ap (filter (is_folded qual link)) (sym rows);
       kinds = refl;
     }
 
-    rows_at_range : (key : RelKey) (r : Option Range) → range_at db key ≡ r → rows_of db who key attrs ≡ range_rows (λ view. told_view (rows_told db who) greatest_level db view attrs) db who key attrs r
+    rows_at_range : (key : RelKey) (r : Option Range) → range_at db key ≡ r → rows_of db who key attrs ≡ range_rows (λ view. said_view (rows_said db who) greatest_level db view attrs) db who key attrs r
     unfolding rows_of
-    rows_at_range key r h = ap (λ rows. rows attrs) (told_at (rows_told db who) greatest_level db key r h)
+    rows_at_range key r h = ap (λ rows. rows attrs) (said_at (rows_said db who) greatest_level db key r h)
 
     view_folds : (key : RelKey) (view : View) → range_at db key ≡ Some (Viewed view)
-        → FoldsAs (Named key) (rows_of_query (put_plain (text_within (greatest_level - 1) db who) view.query)) []
+        → FoldsAs (Named key) (rows_of_query (expanded_plain (expansion_within (greatest_level - 1) db who) view.query)) []
     view_folds key view h = record {
       folded = λ used link.
           ap (filter (is_folded (all_of (qual ∷ [])) link)) (sym (plain_put (greatest_level - 1) db who d view.query (plain_view db d key view h)))
           ∙ filter_same (is_folded (all_of (qual ∷ [])) link) (is_folded qual link) (rows_given no_aggs view.query (assigned (rows_within (greatest_level - 1) db who) view.query)) (alone link)
           ∙ ap (filter (is_folded qual link)) (sym (rows_at_range key (Some (Viewed view)) h));
       kinds =
-          ap (map (λ t. t.kind)) (targets_of-put no_aggregate (query_texts (text_within (greatest_level - 1) db who) view.query) view.query)
-          ∙ kinds_put no_aggregate (put_from 0 (query_texts (text_within (greatest_level - 1) db who) view.query)) (targets_of view.query)
+          ap (map (λ t. t.kind)) (targets_of-put no_aggregate (query_expansions (expansion_within (greatest_level - 1) db who) view.query) view.query)
+          ∙ kinds_put no_aggregate (substituted_from 0 (query_expansions (expansion_within (greatest_level - 1) db who) view.query)) (targets_of view.query)
           ∙ sym (view_kinds key view h);
     }
 
-    range_folds : (key : RelKey) (r : Option Range) → range_at db key ≡ r → FoldsAs (Named key) (put_range db who key r) (range_cut db who attrs key r)
+    range_folds : (key : RelKey) (r : Option Range) → range_at db key ≡ r → FoldsAs (Named key) (expanded_range db who key r) (range_restriction db who attrs key r)
     range_folds key None h =
         kept_folds key (ap is_no_view h) (rows_at_range key None h ∙ sym (ap (λ r. filter (may db who Retrieve attrs key) (kept_rows r)) h))
     range_folds key (Some (Kept relation)) h =
         kept_folds key (ap is_no_view h) (rows_at_range key (Some (Kept relation)) h ∙ sym (ap (λ r. filter (may db who Retrieve attrs key) (kept_rows r)) h))
     range_folds key (Some (Viewed view)) h = view_folds key view h
 
-    query_folds : (q : Query) → query_aggregates q ≡ [] → FoldsAs (rows_of_query q) (rows_of_query (put_plain (text_of db who) q)) []
-    unfolding rows_of text_of
+    query_folds : (q : Query) → query_aggregates q ≡ [] → FoldsAs (rows_of_query q) (rows_of_query (expanded_plain (expansion_of db who) q)) []
+    unfolding rows_of expansion_of
     query_folds q plain = record {
       folded = λ used link.
           ap (filter (is_folded (all_of (qual ∷ [])) link)) (sym (plain_put greatest_level db who d q plain))
           ∙ filter_same (is_folded (all_of (qual ∷ [])) link) (is_folded qual link) (rows_given no_aggs q (assigned (rows_within greatest_level db who) q)) (alone link);
       kinds =
-          ap (map (λ t. t.kind)) (targets_of-put no_aggregate (query_texts (text_within greatest_level db who) q) q)
-          ∙ kinds_put no_aggregate (put_from 0 (query_texts (text_within greatest_level db who) q)) (targets_of q);
+          ap (map (λ t. t.kind)) (targets_of-put no_aggregate (query_expansions (expansion_within greatest_level db who) q) q)
+          ∙ kinds_put no_aggregate (substituted_from 0 (query_expansions (expansion_within greatest_level db who) q)) (targets_of q);
     }
 
-    pub source_folds : (source : AggSource) → source_is_plain source ≡ true → FoldsAs source (put_source db who source) (source_cut db who attrs source)
+    pub source_folds : (source : AggSource) → source_is_plain source ≡ true → FoldsAs source (expanded_source db who source) (source_restriction db who attrs source)
     source_folds (Named key) plain = range_folds key (range_at db key) refl
     source_folds (rows_of_query q) plain = query_folds q (none_any (query_aggregates q) plain)
 
   -- ---- the aggregate
 
   -- what is folded, where these are the values of the links
-  fold_put : (put : Putting) (g : QAgg) → source_is_plain g.source ≡ true → (link : Option Row) → fold_linked db (rows_of db Free) (put_aggregate db who put g) link ≡ fold_linked db (rows_of db who) g link
+  fold_put : (put : Substitution) (g : QAgg) → source_is_plain g.source ≡ true → (link : Option Row) → fold_linked db (rows_of db Unrestricted) (expanded_aggregate db who put g) link ≡ fold_linked db (rows_of db who) g link
   fold_put put g plain None = refl
   fold_put put g plain (Some link) =
       let folds = source_folds g.qual g.by (used_in_aggregate g) g.source plain in
-      (λ i. fold_arguments db (put_aggregate db who put g) (arguments g (folds.folded (used_in_aggregate (put_aggregate db who put g)) link i)))
+      (λ i. fold_arguments db (expanded_aggregate db who put g) (arguments g (folds.folded (used_in_aggregate (expanded_aggregate db who put g)) link i)))
       ∙ none_alike (arguments g (folded_rows (rows_of db who) g link)) (none_put folds.kinds)
     where
-      none_put : source_kinds db (put_source db who g.source) ≡ source_kinds db g.source → none_value db (put_aggregate db who put g) ≡ none_value db g
-      none_put same = ap (λ kinds. if is_text_kind (kind_of g.arg (kinds ∷ [])) then Text [] else Int (pos 0)) same
+      none_put : source_kinds db (expanded_source db who g.source) ≡ source_kinds db g.source → none_value db (expanded_aggregate db who put g) ≡ none_value db g
+      none_put same = ap (λ kinds. if is_text_kind (kind_of g.arg (kinds ∷ [])) then Expansion [] else Int (pos 0)) same
 
-      none_alike : (values : Option (List Value)) → none_value db (put_aggregate db who put g) ≡ none_value db g → fold_arguments db (put_aggregate db who put g) values ≡ fold_arguments db g values
+      none_alike : (values : Option (List Value)) → none_value db (expanded_aggregate db who put g) ≡ none_value db g → fold_arguments db (expanded_aggregate db who put g) values ≡ fold_arguments db g values
       none_alike None same = refl
       none_alike (Some values) same = ap (λ none. fold_values g.op none values) same
 
-  pub aggregate_put : (put : Putting) (e f : Env) → StandsFor put f e → (g : QAgg) → source_is_plain g.source ≡ true → aggregates db Free (put_aggregate db who put g) f ≡ aggregates db who g e
+  pub aggregate_put : (put : Substitution) (e f : Env) → StandsFor put f e → (g : QAgg) → source_is_plain g.source ≡ true → aggregates db Unrestricted (expanded_aggregate db who put g) f ≡ aggregates db who g e
   unfolding aggregates
   aggregate_put put e f stands g plain =
-      ap (fold_linked db (rows_of db Free) (put_aggregate db who put g)) (links_put put e f stands g.link) ∙ fold_put put g plain (values_of g.link e)
+      ap (fold_linked db (rows_of db Unrestricted) (expanded_aggregate db who put g)) (links_put put e f stands g.link) ∙ fold_put put g plain (values_of g.link e)
 
 -- ---- the term that an aggregate is
 

@@ -1,4 +1,4 @@
--- A query answers for the one who asks what it answers for nobody in particular once its texts are put in.
+-- A query answers for the one who asks what it answers unrestricted once its expansions are put in.
 use Rattle.std.proofs.Common.{◌≡◌, refl, sym, ap, ◌∙◌, inl, inr, ℕ, true, not, List, [], map}
 use Rattle.std.specs.List.{list_all, enumerate_from}
 use Rattle.calculus.specs.declared.query.QAgg.{QAgg}
@@ -7,7 +7,7 @@ use Rattle.calculus.specs.declared.query.Query.{Query}
 use Rattle.calculus.specs.Tree.{neg, abs, operation, concat, term_row}
 use Rattle.calculus.specs.Lists.{is_any}
 use Rattle.calculus.specs.Term.{Env, val}
-use Rattle.calculus.specs.Who.{Who, Free}
+use Rattle.calculus.specs.Who.{Who, Unrestricted}
 use Rattle.calculus.specs.Database.{Db}
 use Rattle.calculus.specs.IsDatabase.{IsDatabase}
 use Rattle.calculus.specs.QueryParts.{term_aggregates, query_aggregates, vars_of}
@@ -19,20 +19,20 @@ use Rattle.calculus.specs.Aggregate.{aggregates}
 use Rattle.calculus.specs.Answer.{answer, lacks}
 use Rattle.calculus_laws.proofs.Members.{In}
 use Rattle.calculus_laws.proofs.SameRows.{all_at}
-use Rattle.view_text.specs.Replaced.{Putting, replaced, no_aggregate}
-use Rattle.view_text.specs.Texts.{put_from, query_texts, texts_vars}
-use Rattle.view_text.specs.TextOf.{text_of}
-use Rattle.view_text.specs.PutIn.{put_aggregate, put_made, put_in}
+use Rattle.view_text.specs.Replaced.{Substitution, replaced, no_aggregate}
+use Rattle.view_text.specs.Expansions.{substituted_from, query_expansions, expansions_vars}
+use Rattle.view_text.specs.ExpansionOf.{expansion_of}
+use Rattle.view_text.specs.Expanded.{expanded_aggregate, expanded_made, expanded}
 use Rattle.tree_laws.specs.Nesting.{source_is_plain, nests_none, aggregates_nest_none}
 use Rattle.tree_laws.proofs.Values.{StandsFor, MakesAll}
 use Rattle.tree_laws.proofs.Halves.{any_append}
 use Rattle.tree_laws.proofs.Scopes.{both_true}
 use Rattle.tree_laws.proofs.Queries.{same_given, same_lack}
-use Rattle.tree_laws.proofs.Told.{query_told, all_told}
+use Rattle.tree_laws.proofs.Denoted.{query_denoted, all_denoted}
 use Rattle.tree_laws.proofs.Named.{Names, KeepsNames, term_named, none_keep, either_true, left_true, right_true}
 use Rattle.tree_laws.proofs.Placed.{within_none}
 use Rattle.tree_laws.proofs.Sound.{all_sound}
-use Rattle.tree_laws.proofs.Freely.{free_assigned}
+use Rattle.tree_laws.proofs.Unrestrictedly.{unrestricted_assigned}
 use Rattle.tree_laws.proofs.Aggregated.{aggregate_put, val_aggregate, none_any}
 use Rattle.tree_laws.proofs.Joint.{kept_lists}
 
@@ -40,12 +40,12 @@ use Rattle.tree_laws.proofs.Joint.{kept_lists}
 nested : (gs : List QAgg) → list_all nests_none gs ≡ true → (g : QAgg) → In g gs → nests_none g ≡ true
 nested gs nest g inside = all_at nests_none gs g inside nest
 
-module _ (db : Db) (d : IsDatabase db) (who : Who) (put : Putting) (gs : List QAgg) (nest : list_all nests_none gs ≡ true) where
-  pub put_makes : (e f : Env) → StandsFor put f e → MakesAll (aggregates db who) (aggregates db Free) (put_made db who put) f e gs
+module _ (db : Db) (d : IsDatabase db) (who : Who) (put : Substitution) (gs : List QAgg) (nest : list_all nests_none gs ≡ true) where
+  pub put_makes : (e f : Env) → StandsFor put f e → MakesAll (aggregates db who) (aggregates db Unrestricted) (expanded_made db who put) f e gs
   unfolding val term_aggregates
   put_makes e f stands (Agg' mark (more_of-QAgg slot op source arg bys by links link qual rest)) h within =
       let g : QAgg = record { slot = slot; op = op; source = source; arg = arg; by = items-the_row-QTerm _ by; link = items-the_row-QTerm _ link; qual = qual } in
-      val_aggregate (aggregates db Free) (put_aggregate db who put g) f
+      val_aggregate (aggregates db Unrestricted) (expanded_aggregate db who put g) f
       ∙ aggregate_put db d who put e f stands g (both_true (source_is_plain source) (list_all (λ t. not (is_any (term_aggregates t))) (items-the_row-QTerm _ link)) (nested gs nest g (within g (inl refl)))).0
   put_makes e f stands (Int n) h within = cc h
   put_makes e f stands (Chars bytes) h within = cc h
@@ -70,7 +70,7 @@ module _ (db : Db) (d : IsDatabase db) (who : Who) (put : Putting) (gs : List QA
             (row_named v w names rest parts.1 k)
       ]
 
-  pub put_keeps : KeepsNames (put_made db who put) put gs
+  pub put_keeps : KeepsNames (expanded_made db who put) put gs
   unfolding term_aggregates
   put_keeps v w names (Agg' mark (more_of-QAgg slot op source arg bys by links link qual rest)) h within is_used =
       let g : QAgg = record { slot = slot; op = op; source = source; arg = arg; by = items-the_row-QTerm _ by; link = items-the_row-QTerm _ link; qual = qual } in
@@ -84,26 +84,26 @@ module _ (db : Db) (d : IsDatabase db) (who : Who) (put : Putting) (gs : List QA
   put_keeps v w names (concat t u) h within is_used = cc h
 
 module _ (db : Db) (d : IsDatabase db) (who : Who) (q : Query) (nest : aggregates_nest_none q ≡ true) where
-  put_assigned : assigned (rows_of db Free) (put_in db who q) ≡ choices (kept_lists db (texts_vars (query_texts (text_of db who) q)))
-  unfolding put_in
+  put_assigned : assigned (rows_of db Unrestricted) (expanded db who q) ≡ choices (kept_lists db (expansions_vars (query_expansions (expansion_of db who) q)))
+  unfolding expanded
   put_assigned =
-      free_assigned db (text_of db who) (all_sound db who d) (put_made db who (put_from 0 (query_texts (text_of db who) q))) q
-      (put_keeps db d who (put_from 0 (query_texts (text_of db who) q)) (query_aggregates q) nest)
+      unrestricted_assigned db (expansion_of db who) (all_sound db who d) (expanded_made db who (substituted_from 0 (query_expansions (expansion_of db who) q))) q
+      (put_keeps db d who (substituted_from 0 (query_expansions (expansion_of db who) q)) (query_aggregates q) nest)
 
-  pub answer_put : answer db who q ≡ answer db Free (put_in db who q)
-  unfolding answer assigned put_in
+  pub answer_put : answer db who q ≡ answer db Unrestricted (expanded db who q)
+  unfolding answer assigned expanded
   answer_put =
-      same_given db (aggregates db who) (aggregates db Free) (put_made db who (put_from 0 (query_texts (text_of db who) q))) q
-      (map (λ p. variable_rows (rows_of db who) q p.0 p.1) (enumerate_from 0 (vars_of q))) (query_texts (text_of db who) q)
-      (query_told db (rows_of db who) (text_of db who) (all_told db who) q 0 (vars_of q))
-      (put_makes db d who (put_from 0 (query_texts (text_of db who) q)) (query_aggregates q) nest)
-      ∙ ap (rows_given (aggregates db Free) (put_in db who q)) (sym put_assigned)
+      same_given db (aggregates db who) (aggregates db Unrestricted) (expanded_made db who (substituted_from 0 (query_expansions (expansion_of db who) q))) q
+      (map (λ p. variable_rows (rows_of db who) q p.0 p.1) (enumerate_from 0 (vars_of q))) (query_expansions (expansion_of db who) q)
+      (query_denoted db (rows_of db who) (expansion_of db who) (all_denoted db who) q 0 (vars_of q))
+      (put_makes db d who (substituted_from 0 (query_expansions (expansion_of db who) q)) (query_aggregates q) nest)
+      ∙ ap (rows_given (aggregates db Unrestricted) (expanded db who q)) (sym put_assigned)
 
-  pub lacks_put : lacks db who q ≡ lacks db Free (put_in db who q)
-  unfolding lacks assigned put_in
+  pub lacks_put : lacks db who q ≡ lacks db Unrestricted (expanded db who q)
+  unfolding lacks assigned expanded
   lacks_put =
-      same_lack db (aggregates db who) (aggregates db Free) (put_made db who (put_from 0 (query_texts (text_of db who) q))) q
-      (map (λ p. variable_rows (rows_of db who) q p.0 p.1) (enumerate_from 0 (vars_of q))) (query_texts (text_of db who) q)
-      (query_told db (rows_of db who) (text_of db who) (all_told db who) q 0 (vars_of q))
-      (put_makes db d who (put_from 0 (query_texts (text_of db who) q)) (query_aggregates q) nest)
-      ∙ ap (some_lacks (aggregates db Free) (put_in db who q)) (sym put_assigned)
+      same_lack db (aggregates db who) (aggregates db Unrestricted) (expanded_made db who (substituted_from 0 (query_expansions (expansion_of db who) q))) q
+      (map (λ p. variable_rows (rows_of db who) q p.0 p.1) (enumerate_from 0 (vars_of q))) (query_expansions (expansion_of db who) q)
+      (query_denoted db (rows_of db who) (expansion_of db who) (all_denoted db who) q 0 (vars_of q))
+      (put_makes db d who (substituted_from 0 (query_expansions (expansion_of db who) q)) (query_aggregates q) nest)
+      ∙ ap (some_lacks (aggregates db Unrestricted) (expanded db who q)) (sym put_assigned)

@@ -25,10 +25,10 @@ use Rattle.calculus_laws.proofs.Plain.{in_targets}
 use Rattle.calculus_laws.proofs.SameRows.{all_at}
 use Rattle.quel_meaning.specs.KindsInQueries.{links_fit, fitting_kind, aggregate_kind, kind_in_query, kinds_fit_in_query}
 use Rattle.quel_meaning.specs.FitQueries.{kept_or_viewed, source_fits}
-use Rattle.view_text.specs.Replaced.{Putting, replaced, replaced_in_qual, replaced_target, no_aggregate}
+use Rattle.view_text.specs.Replaced.{Substitution, replaced, replaced_in_qual, replaced_target, no_aggregate}
 use Rattle.view_text.specs.Halves.{paired, chained, joined_within, all_of}
 use Rattle.view_text.specs.Scoped.{is_within, is_qual_within}
-use Rattle.view_text.specs.PutIn.{put_source, range_cut, source_cut, put_aggregate, put_made}
+use Rattle.view_text.specs.Expanded.{expanded_source, range_restriction, source_restriction, expanded_aggregate, expanded_made}
 use Rattle.tree_laws.specs.Nesting.{source_is_plain}
 use Rattle.tree_laws.proofs.Aggregated.{source_folds, row_items}
 use Rattle.tree_laws.proofs.Placed.{qual_within_plain, within_plain}
@@ -37,7 +37,7 @@ use Rattle.tree_laws.proofs.Joint.{both_are}
 use Rattle.tree_laws.proofs.Values.{within_left, within_right}
 use Rattle.tree_laws.proofs.Nests.{number_there, operated_there, joined_there, compared_there, text_there, source_plain, fitting}
 use Rattle.tree_laws.proofs.SameKinds.{VarKinds, HasKinds, Names, in_left, in_right, own_name, kind_replaced}
-use Rattle.tree_laws.proofs.FitTexts.{all_fit, cut_fits}
+use Rattle.tree_laws.proofs.FitExpansions.{all_fit, restriction_fits}
 use Rattle.tree_laws.proofs.FitPlain.{all_of_fit}
 
 -- ---- terms without aggregates
@@ -69,7 +69,7 @@ qual_in_query_within db k vars (negated p) h = qual_in_query_within db k vars p 
 
 -- ---- aggregates
 
-module _ (db : Db) (d : IsDatabase db) (who : Who) (Known : ℕ → Type 0) (put : Putting) (new vars : VarKinds) (has : HasKinds Known put new vars) where
+module _ (db : Db) (d : IsDatabase db) (who : Who) (Known : ℕ → Type 0) (put : Substitution) (new vars : VarKinds) (has : HasKinds Known put new vars) where
   links_same : (inner : VarKinds) (by : List QTerm) (link : List QTerm) → ((t : QTerm) → In t link → Names Known (λ v. used v t)) → links_fit inner by vars link ≡ true
       → links_fit inner by new (map (replaced no_aggregate put) link) ≡ true
   links_same inner [] [] names h = refl
@@ -82,33 +82,33 @@ module _ (db : Db) (d : IsDatabase db) (who : Who) (Known : ℕ → Type 0) (put
       both_are (comparable (kind_of b inner) (kind_of (replaced no_aggregate put t) new)) (links_fit inner by new (map (replaced no_aggregate put) link))
       (ap (comparable (kind_of b inner)) same ∙ parts.0) (links_same inner by link (λ u inside. names u (inr inside)) parts.1)
 
-  range_cut_fits : (attrs : List ℕ) (key : RelKey) (r : Option Range) → all_fit (kinds_at db key ∷ []) (range_cut db who attrs key r) ≡ true
-  range_cut_fits attrs key None = cut_fits db d who Retrieve attrs key
-  range_cut_fits attrs key (Some (Kept relation)) = cut_fits db d who Retrieve attrs key
-  range_cut_fits attrs key (Some (Viewed view)) = refl
+  range_restriction_fits : (attrs : List ℕ) (key : RelKey) (r : Option Range) → all_fit (kinds_at db key ∷ []) (range_restriction db who attrs key r) ≡ true
+  range_restriction_fits attrs key None = restriction_fits db d who Retrieve attrs key
+  range_restriction_fits attrs key (Some (Kept relation)) = restriction_fits db d who Retrieve attrs key
+  range_restriction_fits attrs key (Some (Viewed view)) = refl
 
-  source_cut_fits : (attrs : List ℕ) (source : AggSource) → all_fit (source_kinds db source ∷ []) (source_cut db who attrs source) ≡ true
-  source_cut_fits attrs (Named key) = range_cut_fits attrs key (range_at db key)
-  source_cut_fits attrs (rows_of_query q) = refl
+  source_restriction_fits : (attrs : List ℕ) (source : AggSource) → all_fit (source_kinds db source ∷ []) (source_restriction db who attrs source) ≡ true
+  source_restriction_fits attrs (Named key) = range_restriction_fits attrs key (range_at db key)
+  source_restriction_fits attrs (rows_of_query q) = refl
 
   fit_kind : (fit : Bool) (o : AggOp) (k : Option Kind) → fit ≡ true → fitting_kind fit o k ≡ fitting_kind true o k
   fit_kind fit o k h = ap (λ b. fitting_kind b o k) h
 
   pub aggregate_same : (g : QAgg) → ((t : QTerm) → In t g.link → Names Known (λ v. used v t)) → source_is_plain g.source ≡ true → is_some (aggregate_kind db g vars) ≡ true
-      → aggregate_kind db (put_aggregate db who put g) new ≡ aggregate_kind db g vars
+      → aggregate_kind db (expanded_aggregate db who put g) new ≡ aggregate_kind db g vars
   unfolding aggregate_kind
   aggregate_same g names plain h =
-      ap (λ kinds. fitting_kind (links_fit (kinds ∷ []) g.by new (map (replaced no_aggregate put) g.link) && kinds_fit (all_of (g.qual ∷ source_cut db who (used_in_aggregate g) g.source)) (kinds ∷ [])) g.op (kind_of g.arg (kinds ∷ []))) same
-      ∙ fit_kind (links_fit inner g.by new (map (replaced no_aggregate put) g.link) && kinds_fit (all_of (g.qual ∷ source_cut db who (used_in_aggregate g) g.source)) inner) g.op (kind_of g.arg inner)
-      (both_are (links_fit inner g.by new (map (replaced no_aggregate put) g.link)) (kinds_fit (all_of (g.qual ∷ source_cut db who (used_in_aggregate g) g.source)) inner)
+      ap (λ kinds. fitting_kind (links_fit (kinds ∷ []) g.by new (map (replaced no_aggregate put) g.link) && kinds_fit (all_of (g.qual ∷ source_restriction db who (used_in_aggregate g) g.source)) (kinds ∷ [])) g.op (kind_of g.arg (kinds ∷ []))) same
+      ∙ fit_kind (links_fit inner g.by new (map (replaced no_aggregate put) g.link) && kinds_fit (all_of (g.qual ∷ source_restriction db who (used_in_aggregate g) g.source)) inner) g.op (kind_of g.arg inner)
+      (both_are (links_fit inner g.by new (map (replaced no_aggregate put) g.link)) (kinds_fit (all_of (g.qual ∷ source_restriction db who (used_in_aggregate g) g.source)) inner)
       (links_same inner g.by g.link names parts.0)
-      (all_of_fit inner (g.qual ∷ source_cut db who (used_in_aggregate g) g.source) ∙ both_are (kinds_fit g.qual inner) (all_fit inner (source_cut db who (used_in_aggregate g) g.source)) parts.1 (source_cut_fits (used_in_aggregate g) g.source)))
+      (all_of_fit inner (g.qual ∷ source_restriction db who (used_in_aggregate g) g.source) ∙ both_are (kinds_fit g.qual inner) (all_fit inner (source_restriction db who (used_in_aggregate g) g.source)) parts.1 (source_restriction_fits (used_in_aggregate g) g.source)))
       ∙ sym (fit_kind (links_fit inner g.by vars g.link && kinds_fit g.qual inner) g.op (kind_of g.arg inner) fit)
     where
       inner : VarKinds
       inner = source_kinds db g.source ∷ []
 
-      same : source_kinds db (put_source db who g.source) ≡ source_kinds db g.source
+      same : source_kinds db (expanded_source db who g.source) ≡ source_kinds db g.source
       same = (source_folds db d who g.qual g.by (used_in_aggregate g) g.source plain).kinds
 
       fit : (links_fit inner g.by vars g.link && kinds_fit g.qual inner) ≡ true
@@ -131,7 +131,7 @@ module _ (db : Db) (d : IsDatabase db) (who : Who) (Known : ℕ → Type 0) (put
 
   module _ (total : ℕ) (within : (v a : ℕ) → is_within total (put v a) ≡ true) (gs : List QAgg) (fit : list_all (λ g. source_fits (kept_or_viewed db) db g.source) gs ≡ true) where
     pub kind_put : (t : QTerm) → Within (term_aggregates t) gs → Names Known (λ v. used v t) → is_some (kind_in_query db t vars) ≡ true
-        → kind_in_query db (replaced (put_made db who put) put t) new ≡ kind_in_query db t vars
+        → kind_in_query db (replaced (expanded_made db who put) put t) new ≡ kind_in_query db t vars
     unfolding kind_in_query replaced term_aggregates kind_of
     kind_put (Int n) w names h = refl
     kind_put (Chars bytes) w names h = refl
@@ -150,11 +150,11 @@ module _ (db : Db) (d : IsDatabase db) (who : Who) (Known : ℕ → Type 0) (put
         λ i. joined_kind (left i) (right i)
     kind_put (Agg' mark (more_of-QAgg slot op source arg bys by links link qual rest)) w names h =
         let g : QAgg = record { slot = slot; op = op; source = source; arg = arg; by = items-the_row-QTerm _ by; link = items-the_row-QTerm _ link; qual = qual } in
-        kind_of_aggregate (put_aggregate db who put g)
+        kind_of_aggregate (expanded_aggregate db who put g)
         ∙ aggregate_same g (link_names link names) (source_plain (kept_or_viewed db) db source (all_at (λ g. source_fits (kept_or_viewed db) db g.source) gs g (w g (inl refl)) fit)) h
 
     pub fit_put : (q : QQual) → Within (qual_aggregates q) gs → Names Known (λ v. used_in_qual v q) → kinds_fit_in_query db q vars ≡ true
-        → kinds_fit_in_query db (replaced_in_qual (put_made db who put) put q) new ≡ true
+        → kinds_fit_in_query db (replaced_in_qual (expanded_made db who put) put q) new ≡ true
     unfolding kinds_fit_in_query replaced_in_qual qual_aggregates
     fit_put True w names h = refl
     fit_put (Cmp op t u) w names h =
@@ -181,16 +181,16 @@ map_behind : {X Y : Type 0} (f : X → Y) (xs ys : List X) → map f xs ++ map f
 map_behind f [] ys = refl
 map_behind f (x ∷ xs) ys = ap (λ l. f x ∷ l) (map_behind f xs ys)
 
-module _ (db : Db) (who : Who) (put : Putting) (total : ℕ) (within : (v a : ℕ) → is_within total (put v a) ≡ true) where
+module _ (db : Db) (who : Who) (put : Substitution) (total : ℕ) (within : (v a : ℕ) → is_within total (put v a) ≡ true) where
   -- what is made of an aggregate
   abbrev G : QAgg → QAgg
-  G = put_aggregate db who put
+  G = expanded_aggregate db who put
 
   aggregate_items : (g : QAgg) → term_aggregates (aggregate g) ≡ g ∷ []
   unfolding term_aggregates
   aggregate_items g = λ i. record { slot = g.slot; op = g.op; source = g.source; arg = g.arg; by = row_items g.by i; link = row_items g.link i; qual = g.qual } ∷ []
 
-  pub term_made : (t : QTerm) → term_aggregates (replaced (put_made db who put) put t) ≡ map G (term_aggregates t)
+  pub term_made : (t : QTerm) → term_aggregates (replaced (expanded_made db who put) put t) ≡ map G (term_aggregates t)
   unfolding replaced term_aggregates
   term_made (Int n) = refl
   term_made (Chars bytes) = refl
@@ -202,7 +202,7 @@ module _ (db : Db) (who : Who) (put : Putting) (total : ℕ) (within : (v a : �
   term_made (Agg' mark (more_of-QAgg slot op source arg bys by links link qual rest)) =
       aggregate_items (G (record { slot = slot; op = op; source = source; arg = arg; by = items-the_row-QTerm _ by; link = items-the_row-QTerm _ link; qual = qual }))
 
-  pub qual_made : (q : QQual) → qual_aggregates (replaced_in_qual (put_made db who put) put q) ≡ map G (qual_aggregates q)
+  pub qual_made : (q : QQual) → qual_aggregates (replaced_in_qual (expanded_made db who put) put q) ≡ map G (qual_aggregates q)
   unfolding replaced_in_qual qual_aggregates
   qual_made True = refl
   qual_made (Cmp op t u) = (λ i. term_made t i ++ term_made u i) ∙ map_behind G (term_aggregates t) (term_aggregates u)
@@ -211,7 +211,7 @@ module _ (db : Db) (who : Who) (put : Putting) (total : ℕ) (within : (v a : �
   qual_made (either p q) = (λ i. qual_made p i ++ qual_made q i) ∙ map_behind G (qual_aggregates p) (qual_aggregates q)
   qual_made (negated p) = qual_made p
 
-  pub targets_made : (ts : List Target) → in_targets (map (replaced_target (put_made db who put) put) ts) ≡ map G (in_targets ts)
+  pub targets_made : (ts : List Target) → in_targets (map (replaced_target (expanded_made db who put) put) ts) ≡ map G (in_targets ts)
   targets_made [] = refl
   targets_made (t ∷ ts) = (λ i. term_made t.term i ++ targets_made ts i) ∙ map_behind G (term_aggregates t.term) (in_targets ts)
 

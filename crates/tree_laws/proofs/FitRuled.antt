@@ -15,7 +15,7 @@ use Rattle.calculus.specs.Limits.{most_expanded_variables}
 use Rattle.calculus.specs.Kinds.{kinds_fit}
 use Rattle.calculus.specs.Sizes.{update_expanded_variables}
 use Rattle.calculus.specs.Database.{Db, is_relation, rules_on}
-use Rattle.calculus.specs.IsDatabase.{IsDatabase, row_qual_stands}
+use Rattle.calculus.specs.IsDatabase.{IsDatabase, valid_row_qual}
 use Rattle.calculus.specs.Pairs.{ruled}
 use Rattle.calculus.specs.Stored.{kinds_at}
 use Rattle.calculus_laws.proofs.Enough.{same_key-exact}
@@ -25,15 +25,15 @@ use Rattle.quel_meaning.specs.Fit.{places_fit, update_kinds_fit, checks_fit, rel
 use Rattle.quel_meaning.specs.Meaning.{ruled_tree}
 use Rattle.tree_laws.proofs.Scopes.{both_true}
 use Rattle.tree_laws.proofs.Joint.{both_are, all_append}
-use Rattle.tree_laws.proofs.FitTexts.{all_fit}
+use Rattle.tree_laws.proofs.FitExpansions.{all_fit}
 
 module _ (db : Db) (d : IsDatabase db) where
-  rules_fit : (key : RelKey) (rules : List (RelKey × Rule)) → list_all (λ p. is_relation db p.0 && row_qual_stands db p.0 p.1.qual) rules ≡ true
+  rules_fit : (key : RelKey) (rules : List (RelKey × Rule)) → list_all (λ p. is_relation db p.0 && valid_row_qual db p.0 p.1.qual) rules ≡ true
       → all_fit (kinds_at db key ∷ []) (map (λ r. r.qual) (map (λ p. p.1) (filter (λ p. same_key p.0 key) rules))) ≡ true
   rules_fit key [] h = refl
   rules_fit key (p ∷ rules) h =
-      let parts = both_true (is_relation db p.0 && row_qual_stands db p.0 p.1.qual) (list_all (λ p. is_relation db p.0 && row_qual_stands db p.0 p.1.qual) rules) h in
-      by (same_key p.0 key) refl (both_true (is_relation db p.0) (row_qual_stands db p.0 p.1.qual) parts.0).1 (rules_fit key rules parts.1)
+      let parts = both_true (is_relation db p.0 && valid_row_qual db p.0 p.1.qual) (list_all (λ p. is_relation db p.0 && valid_row_qual db p.0 p.1.qual) rules) h in
+      by (same_key p.0 key) refl (both_true (is_relation db p.0) (valid_row_qual db p.0 p.1.qual) parts.0).1 (rules_fit key rules parts.1)
     where
       by : (b : Bool) → same_key p.0 key ≡ b → kinds_fit p.1.qual (kinds_at db p.0 ∷ []) ≡ true
           → all_fit (kinds_at db key ∷ []) (map (λ r. r.qual) (map (λ p. p.1) (filter (λ p. same_key p.0 key) rules))) ≡ true
@@ -44,10 +44,10 @@ module _ (db : Db) (d : IsDatabase db) where
       by false e one more = more
 
   -- the checks with the rules before them
-  checks_ruled : (rel : RelKey) (cut : QQual) (checks : List QQual) → all_fit (kinds_at db rel ∷ []) (cut ∷ checks) ≡ true → all_fit (kinds_at db rel ∷ []) (cut ∷ (map (λ r. r.qual) (rules_on db rel) ++ checks)) ≡ true
-  checks_ruled rel cut checks h =
-      let parts = both_true (kinds_fit cut (kinds_at db rel ∷ [])) (all_fit (kinds_at db rel ∷ []) checks) h in
-      both_are (kinds_fit cut (kinds_at db rel ∷ [])) (all_fit (kinds_at db rel ∷ []) (map (λ r. r.qual) (rules_on db rel) ++ checks)) parts.0
+  checks_ruled : (rel : RelKey) (restriction : QQual) (checks : List QQual) → all_fit (kinds_at db rel ∷ []) (restriction ∷ checks) ≡ true → all_fit (kinds_at db rel ∷ []) (restriction ∷ (map (λ r. r.qual) (rules_on db rel) ++ checks)) ≡ true
+  checks_ruled rel restriction checks h =
+      let parts = both_true (kinds_fit restriction (kinds_at db rel ∷ [])) (all_fit (kinds_at db rel ∷ []) checks) h in
+      both_are (kinds_fit restriction (kinds_at db rel ∷ [])) (all_fit (kinds_at db rel ∷ []) (map (λ r. r.qual) (rules_on db rel) ++ checks)) parts.0
       (all_append (λ q. kinds_fit q (kinds_at db rel ∷ [])) (map (λ r. r.qual) (rules_on db rel)) checks
       ∙ both_are (all_fit (kinds_at db rel ∷ []) (map (λ r. r.qual) (rules_on db rel))) (all_fit (kinds_at db rel ∷ []) checks) (rules_fit rel db.rules d.rules_stand) parts.1)
 

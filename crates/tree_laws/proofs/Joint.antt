@@ -10,12 +10,12 @@ use Rattle.calculus.specs.Term.{Env, Aggs, val, holds, no_aggs, attribute_value}
 use Rattle.calculus.specs.Database.{Db}
 use Rattle.calculus.specs.Stored.{rows_at}
 use Rattle.calculus_laws.proofs.Members.{In, Chosen}
-use Rattle.view_text.specs.declared.text.Text.{Text}
-use Rattle.view_text.specs.Replaced.{moved_qual}
+use Rattle.view_text.specs.declared.expansion.Expansion.{Expansion}
+use Rattle.view_text.specs.Replaced.{shifted_qual}
 use Rattle.view_text.specs.Scoped.{is_within, is_qual_within, are_within, is_scoped}
-use Rattle.view_text.specs.Texts.{attr_term, own_or, term_at, texts_vars, put_from, conditions_from}
+use Rattle.view_text.specs.Expansions.{attr_term, own_or, term_at, expansions_vars, substituted_from, conditions_from}
 use Rattle.tree_laws.proofs.Values.{without_value_has_none, StandsFor}
-use Rattle.tree_laws.proofs.Scopes.{both_true, val_moved, all_moved}
+use Rattle.tree_laws.proofs.Scopes.{both_true, val_shifted, all_shifted}
 
 -- ---- lists
 
@@ -39,7 +39,7 @@ length_behind : {X : Type 0} (xs ys : List X) → length (xs ++ ys) ≡ length x
 length_behind [] ys = omega arith
 length_behind (x ∷ xs) ys = let more = length_behind xs ys in omega (arith, more)
 
--- ---- one text
+-- ---- one expansion
 
 -- the rows of what the variables range over
 abbrev pub kept_lists : Db → List RelKey → List (List Row)
@@ -49,22 +49,22 @@ kept_lists db vars = map (rows_at db) vars
 abbrev pub all_hold : Aggs → List QQual → Env → Bool
 all_hold aggs qs e = list_all (λ q. holds aggs q e) qs
 
--- the attributes of the text have the values of the row
-abbrev pub IsRow : Text → Row → Env → Type 0
-IsRow text row seg = (a : ℕ) → val no_aggs (attr_term text a) seg ≡ slice_get row a
+-- the attributes of the expansion have the values of the row
+abbrev pub IsRow : Expansion → Row → Env → Type 0
+IsRow expansion row seg = (a : ℕ) → val no_aggs (attr_term expansion a) seg ≡ slice_get row a
 
--- a text tells of these rows: in each assignment in which its conditions hold it has the values of one of them, and of each there is such an assignment
-pub record Tells (db : Db) (rows : List Row) (text : Text) : Type 0 where
-  pub scoped : is_scoped text ≡ true
-  pub to : (seg : Env) → Chosen (kept_lists db text.vars) seg → all_hold no_aggs text.conditions seg ≡ true → (row : Row) × In row rows × IsRow text row seg
-  pub from : (row : Row) → In row rows → (seg : Env) × Chosen (kept_lists db text.vars) seg × (all_hold no_aggs text.conditions seg ≡ true) × IsRow text row seg
+-- an expansion tells of these rows: in each assignment in which its conditions hold it has the values of one of them, and of each there is such an assignment
+pub record Denotes (db : Db) (rows : List Row) (expansion : Expansion) : Type 0 where
+  pub scoped : is_scoped expansion ≡ true
+  pub to : (seg : Env) → Chosen (kept_lists db expansion.vars) seg → all_hold no_aggs expansion.conditions seg ≡ true → (row : Row) × In row rows × IsRow expansion row seg
+  pub from : (row : Row) → In row rows → (seg : Env) × Chosen (kept_lists db expansion.vars) seg × (all_hold no_aggs expansion.conditions seg ≡ true) × IsRow expansion row seg
 
--- each of these texts tells of the rows in its place
-abbrev pub TellEach : Db → List (List Row) → List Text → Type 0
-TellEach db [] [] = Unit {0}
-TellEach db [] (text ∷ texts) = ⊥
-TellEach db (rows ∷ more) [] = ⊥
-TellEach db (rows ∷ more) (text ∷ texts) = Tells db rows text × TellEach db more texts
+-- each of these expansions tells of the rows in its place
+abbrev pub DenoteEach : Db → List (List Row) → List Expansion → Type 0
+DenoteEach db [] [] = Unit {0}
+DenoteEach db [] (expansion ∷ expansions) = ⊥
+DenoteEach db (rows ∷ more) [] = ⊥
+DenoteEach db (rows ∷ more) (expansion ∷ expansions) = Denotes db rows expansion × DenoteEach db more expansions
 
 -- ---- choices for variables one behind the other
 
@@ -88,7 +88,7 @@ chosen_together db [] ys (row ∷ seg) rest h k = absurd h
 chosen_together db (key ∷ xs) ys [] rest h k = absurd h
 chosen_together db (key ∷ xs) ys (row ∷ seg) rest h k = (h.0, chosen_together db xs ys seg rest h.1 k)
 
--- ---- the terms of a text
+-- ---- the terms of an expansion
 
 term_within : (n : ℕ) (terms : List QTerm) (a : ℕ) → list_all (is_within n) terms ≡ true → is_within n (term_at terms a) ≡ true
 unfolding is_within
@@ -101,11 +101,11 @@ unfolding is_within
 own_within n None a h = h
 own_within n (Some terms) a h = term_within n terms a h
 
-pub attr_within : (text : Text) (a : ℕ) → is_scoped text ≡ true → is_within (length text.vars) (attr_term text a) ≡ true
-attr_within text a h = own_within (length text.vars) text.terms a (both_true (are_within (length text.vars) text.terms) (list_all (is_qual_within (length text.vars)) text.conditions) h).0
+pub attr_within : (expansion : Expansion) (a : ℕ) → is_scoped expansion ≡ true → is_within (length expansion.vars) (attr_term expansion a) ≡ true
+attr_within expansion a h = own_within (length expansion.vars) expansion.terms a (both_true (are_within (length expansion.vars) expansion.terms) (list_all (is_qual_within (length expansion.vars)) expansion.conditions) h).0
 
-conditions_within : (text : Text) → is_scoped text ≡ true → list_all (is_qual_within (length text.vars)) text.conditions ≡ true
-conditions_within text h = (both_true (are_within (length text.vars) text.terms) (list_all (is_qual_within (length text.vars)) text.conditions) h).1
+conditions_within : (expansion : Expansion) → is_scoped expansion ≡ true → list_all (is_qual_within (length expansion.vars)) expansion.conditions ≡ true
+conditions_within expansion h = (both_true (are_within (length expansion.vars) expansion.terms) (list_all (is_qual_within (length expansion.vars)) expansion.conditions) h).1
 
 -- ---- texts one behind the other, behind these rows
 
@@ -123,78 +123,78 @@ unfolding attribute_value
 later_row row e v a = refl
 
 module _ (db : Db) (aggs : Aggs) where
-  -- what the texts say of an assignment that stands behind these rows: their conditions hold, and their attributes have the values of those rows
-  pub record Says (n : ℕ) (texts : List Text) (pre f e : Env) : Type 0 where
-    pub conditions : all_hold aggs (conditions_from n texts) (pre ++ f) ≡ true
-    pub attributes : StandsFor (put_from n texts) (pre ++ f) e
+  -- what the expansions say of an assignment that stands behind these rows: their conditions hold, and their attributes have the values of those rows
+  pub record Says (n : ℕ) (expansions : List Expansion) (pre f e : Env) : Type 0 where
+    pub conditions : all_hold aggs (conditions_from n expansions) (pre ++ f) ≡ true
+    pub attributes : StandsFor (substituted_from n expansions) (pre ++ f) e
 
-  -- one text in front of the others
-  module _ (n : ℕ) (text : Text) (texts : List Text) (pre seg rest : Env) (row : Row) (e : Env)
-      (here : length pre ≡ n) (scoped : is_scoped text ≡ true) (chosen : Chosen (kept_lists db text.vars) seg) where
-    long : length seg ≡ length text.vars
-    long = chosen_length db text.vars seg chosen
+  -- one expansion in front of the others
+  module _ (n : ℕ) (expansion : Expansion) (expansions : List Expansion) (pre seg rest : Env) (row : Row) (e : Env)
+      (here : length pre ≡ n) (scoped : is_scoped expansion ≡ true) (chosen : Chosen (kept_lists db expansion.vars) seg) where
+    long : length seg ≡ length expansion.vars
+    long = chosen_length db expansion.vars seg chosen
 
-    further_on : length (pre ++ seg) ≡ n + length text.vars
+    further_on : length (pre ++ seg) ≡ n + length expansion.vars
     further_on = length_behind pre seg ∙ (λ i. here i + long i)
 
-    conditions_moved : all_hold aggs (map (moved_qual n) text.conditions) (pre ++ (seg ++ rest)) ≡ all_hold no_aggs text.conditions seg
-    conditions_moved =
-        subst (λ m. all_hold aggs (map (moved_qual m) text.conditions) (pre ++ (seg ++ rest)) ≡ all_hold no_aggs text.conditions seg) here
-        (all_moved aggs no_aggs pre seg rest text.conditions (subst (λ k. list_all (is_qual_within k) text.conditions ≡ true) (sym long) (conditions_within text scoped)))
+    conditions_shifted : all_hold aggs (map (shifted_qual n) expansion.conditions) (pre ++ (seg ++ rest)) ≡ all_hold no_aggs expansion.conditions seg
+    conditions_shifted =
+        subst (λ m. all_hold aggs (map (shifted_qual m) expansion.conditions) (pre ++ (seg ++ rest)) ≡ all_hold no_aggs expansion.conditions seg) here
+        (all_shifted aggs no_aggs pre seg rest expansion.conditions (subst (λ k. list_all (is_qual_within k) expansion.conditions ≡ true) (sym long) (conditions_within expansion scoped)))
 
-    conditions_apart : all_hold aggs (conditions_from n (text ∷ texts)) (pre ++ (seg ++ rest))
-        ≡ (all_hold no_aggs text.conditions seg && all_hold aggs (conditions_from (n + length text.vars) texts) ((pre ++ seg) ++ rest))
+    conditions_apart : all_hold aggs (conditions_from n (expansion ∷ expansions)) (pre ++ (seg ++ rest))
+        ≡ (all_hold no_aggs expansion.conditions seg && all_hold aggs (conditions_from (n + length expansion.vars) expansions) ((pre ++ seg) ++ rest))
     conditions_apart =
-        all_append (λ q. holds aggs q (pre ++ (seg ++ rest))) (map (moved_qual n) text.conditions) (conditions_from (n + length text.vars) texts)
-        ∙ (λ i. conditions_moved i && all_hold aggs (conditions_from (n + length text.vars) texts) (sym (behind_assoc pre seg rest) i))
+        all_append (λ q. holds aggs q (pre ++ (seg ++ rest))) (map (shifted_qual n) expansion.conditions) (conditions_from (n + length expansion.vars) expansions)
+        ∙ (λ i. conditions_shifted i && all_hold aggs (conditions_from (n + length expansion.vars) expansions) (sym (behind_assoc pre seg rest) i))
 
-    first_attribute : IsRow text row seg → (others : Aggs) (a : ℕ) → val others (put_from n (text ∷ texts) 0 a) (pre ++ (seg ++ rest)) ≡ attribute_value (row ∷ e) 0 a
+    first_attribute : IsRow expansion row seg → (others : Aggs) (a : ℕ) → val others (substituted_from n (expansion ∷ expansions) 0 a) (pre ++ (seg ++ rest)) ≡ attribute_value (row ∷ e) 0 a
     first_attribute is others a =
-        subst (λ m. val others (put_from m (text ∷ texts) 0 a) (pre ++ (seg ++ rest)) ≡ val no_aggs (attr_term text a) seg) here
-        (val_moved others no_aggs pre seg rest (attr_term text a) (subst (λ k. is_within k (attr_term text a) ≡ true) (sym long) (attr_within text a scoped)))
+        subst (λ m. val others (substituted_from m (expansion ∷ expansions) 0 a) (pre ++ (seg ++ rest)) ≡ val no_aggs (attr_term expansion a) seg) here
+        (val_shifted others no_aggs pre seg rest (attr_term expansion a) (subst (λ k. is_within k (attr_term expansion a) ≡ true) (sym long) (attr_within expansion a scoped)))
         ∙ is a ∙ sym (first_row row e a)
 
-    together : IsRow text row seg → all_hold no_aggs text.conditions seg ≡ true → Says (n + length text.vars) texts (pre ++ seg) rest e → Says n (text ∷ texts) pre (seg ++ rest) (row ∷ e)
+    together : IsRow expansion row seg → all_hold no_aggs expansion.conditions seg ≡ true → Says (n + length expansion.vars) expansions (pre ++ seg) rest e → Says n (expansion ∷ expansions) pre (seg ++ rest) (row ∷ e)
     together is holding says = record {
-      conditions = conditions_apart ∙ both_are (all_hold no_aggs text.conditions seg) (all_hold aggs (conditions_from (n + length text.vars) texts) ((pre ++ seg) ++ rest)) holding says.conditions;
+      conditions = conditions_apart ∙ both_are (all_hold no_aggs expansion.conditions seg) (all_hold aggs (conditions_from (n + length expansion.vars) expansions) ((pre ++ seg) ++ rest)) holding says.conditions;
       attributes = each;
     }
       where
-        each : StandsFor (put_from n (text ∷ texts)) (pre ++ (seg ++ rest)) (row ∷ e)
+        each : StandsFor (substituted_from n (expansion ∷ expansions)) (pre ++ (seg ++ rest)) (row ∷ e)
         each others zero a = first_attribute is others a
         each others (suc v) a =
-            ap (val others (put_from (n + length text.vars) texts v a)) (sym (behind_assoc pre seg rest)) ∙ says.attributes others v a ∙ sym (later_row row e v a)
+            ap (val others (substituted_from (n + length expansion.vars) expansions v a)) (sym (behind_assoc pre seg rest)) ∙ says.attributes others v a ∙ sym (later_row row e v a)
 
-  -- an assignment in which the conditions hold is one of the rows that the texts tell of
-  pub to_rows : (rowss : List (List Row)) (texts : List Text) (n : ℕ) (pre f : Env) → length pre ≡ n → TellEach db rowss texts → Chosen (kept_lists db (texts_vars texts)) f
-      → all_hold aggs (conditions_from n texts) (pre ++ f) ≡ true → (e : Env) × Chosen rowss e × Says n texts pre f e
-  to_rows [] [] n pre f here tell chosen holding = ([], tt, record { conditions = holding; attributes = λ others v a. without_value_has_none others (pre ++ f) ∙ sym (nowhere v a) })
-  to_rows [] (text ∷ texts) n pre f here tell chosen holding = absurd tell
-  to_rows (rows ∷ more) [] n pre f here tell chosen holding = absurd tell
-  to_rows (rows ∷ more) (text ∷ texts) n pre f here tell chosen holding =
-      let (seg, rest, front, behind, same) = chosen_apart db text.vars (texts_vars texts) f chosen in
-      let held : all_hold aggs (conditions_from n (text ∷ texts)) (pre ++ (seg ++ rest)) ≡ true = ap (λ f. all_hold aggs (conditions_from n (text ∷ texts)) (pre ++ f)) same ∙ holding in
-      let parts = both_true (all_hold no_aggs text.conditions seg) (all_hold aggs (conditions_from (n + length text.vars) texts) ((pre ++ seg) ++ rest))
-      (sym (conditions_apart n text texts pre seg rest [] [] here tell.0.scoped front) ∙ held) in
-      let (row, inside, is) = tell.0.to seg front parts.0 in
-      let (e, others, says) = to_rows more texts (n + length text.vars) (pre ++ seg) rest (further_on n text texts pre seg rest row [] here tell.0.scoped front) tell.1 behind parts.1 in (
+  -- an assignment in which the conditions hold is one of the rows that the expansions tell of
+  pub to_rows : (rowss : List (List Row)) (expansions : List Expansion) (n : ℕ) (pre f : Env) → length pre ≡ n → DenoteEach db rowss expansions → Chosen (kept_lists db (expansions_vars expansions)) f
+      → all_hold aggs (conditions_from n expansions) (pre ++ f) ≡ true → (e : Env) × Chosen rowss e × Says n expansions pre f e
+  to_rows [] [] n pre f here denote chosen holding = ([], tt, record { conditions = holding; attributes = λ others v a. without_value_has_none others (pre ++ f) ∙ sym (nowhere v a) })
+  to_rows [] (expansion ∷ expansions) n pre f here denote chosen holding = absurd denote
+  to_rows (rows ∷ more) [] n pre f here denote chosen holding = absurd denote
+  to_rows (rows ∷ more) (expansion ∷ expansions) n pre f here denote chosen holding =
+      let (seg, rest, front, behind, same) = chosen_apart db expansion.vars (expansions_vars expansions) f chosen in
+      let held : all_hold aggs (conditions_from n (expansion ∷ expansions)) (pre ++ (seg ++ rest)) ≡ true = ap (λ f. all_hold aggs (conditions_from n (expansion ∷ expansions)) (pre ++ f)) same ∙ holding in
+      let parts = both_true (all_hold no_aggs expansion.conditions seg) (all_hold aggs (conditions_from (n + length expansion.vars) expansions) ((pre ++ seg) ++ rest))
+      (sym (conditions_apart n expansion expansions pre seg rest [] [] here denote.0.scoped front) ∙ held) in
+      let (row, inside, is) = denote.0.to seg front parts.0 in
+      let (e, others, says) = to_rows more expansions (n + length expansion.vars) (pre ++ seg) rest (further_on n expansion expansions pre seg rest row [] here denote.0.scoped front) denote.1 behind parts.1 in (
         row ∷ e,
         (inside, others),
-        subst (λ f. Says n (text ∷ texts) pre f (row ∷ e)) same (together n text texts pre seg rest row e here tell.0.scoped front is parts.0 says),
+        subst (λ f. Says n (expansion ∷ expansions) pre f (row ∷ e)) same (together n expansion expansions pre seg rest row e here denote.0.scoped front is parts.0 says),
       )
 
   -- and of rows that they tell of there is such an assignment
-  pub from_rows : (rowss : List (List Row)) (texts : List Text) (n : ℕ) (pre e : Env) → length pre ≡ n → TellEach db rowss texts → Chosen rowss e
-      → (f : Env) × Chosen (kept_lists db (texts_vars texts)) f × Says n texts pre f e
-  from_rows [] [] n pre [] here tell chosen = ([], tt, record { conditions = refl; attributes = λ others v a. without_value_has_none others (pre ++ []) ∙ sym (nowhere v a) })
-  from_rows [] [] n pre (row ∷ e) here tell chosen = absurd chosen
-  from_rows [] (text ∷ texts) n pre e here tell chosen = absurd tell
-  from_rows (rows ∷ more) [] n pre e here tell chosen = absurd tell
-  from_rows (rows ∷ more) (text ∷ texts) n pre [] here tell chosen = absurd chosen
-  from_rows (rows ∷ more) (text ∷ texts) n pre (row ∷ e) here tell chosen =
-      let (seg, front, holding, is) = tell.0.from row chosen.0 in
-      let (rest, behind, says) = from_rows more texts (n + length text.vars) (pre ++ seg) e (further_on n text texts pre seg [] row e here tell.0.scoped front) tell.1 chosen.1 in (
+  pub from_rows : (rowss : List (List Row)) (expansions : List Expansion) (n : ℕ) (pre e : Env) → length pre ≡ n → DenoteEach db rowss expansions → Chosen rowss e
+      → (f : Env) × Chosen (kept_lists db (expansions_vars expansions)) f × Says n expansions pre f e
+  from_rows [] [] n pre [] here denote chosen = ([], tt, record { conditions = refl; attributes = λ others v a. without_value_has_none others (pre ++ []) ∙ sym (nowhere v a) })
+  from_rows [] [] n pre (row ∷ e) here denote chosen = absurd chosen
+  from_rows [] (expansion ∷ expansions) n pre e here denote chosen = absurd denote
+  from_rows (rows ∷ more) [] n pre e here denote chosen = absurd denote
+  from_rows (rows ∷ more) (expansion ∷ expansions) n pre [] here denote chosen = absurd chosen
+  from_rows (rows ∷ more) (expansion ∷ expansions) n pre (row ∷ e) here denote chosen =
+      let (seg, front, holding, is) = denote.0.from row chosen.0 in
+      let (rest, behind, says) = from_rows more expansions (n + length expansion.vars) (pre ++ seg) e (further_on n expansion expansions pre seg [] row e here denote.0.scoped front) denote.1 chosen.1 in (
         seg ++ rest,
-        chosen_together db text.vars (texts_vars texts) seg rest front behind,
-        together n text texts pre seg rest row e here tell.0.scoped front is holding says,
+        chosen_together db expansion.vars (expansions_vars expansions) seg rest front behind,
+        together n expansion expansions pre seg rest row e here denote.0.scoped front is holding says,
       )

@@ -1,7 +1,7 @@
 pub mod Nests
 pub mod Means
 pub mod SameKinds
-pub mod FitTexts
+pub mod FitExpansions
 pub mod FitViews
 pub mod FitWithin
 pub mod FitPlain
@@ -19,11 +19,11 @@ pub mod Joint
 pub mod Within
 pub mod Queries
 pub mod Rows
-pub mod Told
+pub mod Denoted
 pub mod Named
 pub mod Placed
 pub mod Sound
-pub mod Freely
+pub mod Unrestrictedly
 pub mod Aggregated
 pub mod Answering
 pub mod Changing

@@ -12,7 +12,7 @@ use Rattle.calculus.specs.QueryParts.{term_aggregates, qual_aggregates}
 use Rattle.calculus.specs.Used.{used, used_in_qual}
 use Rattle.calculus_laws.proofs.Members.{Within}
 use Rattle.calculus_laws.proofs.Plain.{in_targets}
-use Rattle.view_text.specs.Replaced.{Putting, replaced, replaced_in_qual, replaced_target, no_aggregate}
+use Rattle.view_text.specs.Replaced.{Substitution, replaced, replaced_in_qual, replaced_target, no_aggregate}
 use Rattle.tree_laws.proofs.Values.{is_aggregate, within_left, within_right}
 use Rattle.tree_laws.proofs.Halves.{any_append}
 
@@ -40,14 +40,14 @@ follow xs ys vs ws f g h = any_append vs ws ∙ elim (either_true (is_any xs) (i
 -- ---- terms and qualifications
 
 -- whatever is put in for an attribute of this variable names that one
-abbrev pub Names : Putting → ℕ → ℕ → Type 0
+abbrev pub Names : Substitution → ℕ → ℕ → Type 0
 Names put v w = (a : ℕ) → is_any (used w (put v a)) ≡ true
 
 -- what is made of an aggregate names that one where the aggregate's links name this variable
-abbrev pub KeepsNames : (QTerm → QTerm) → Putting → List QAgg → Type 0
+abbrev pub KeepsNames : (QTerm → QTerm) → Substitution → List QAgg → Type 0
 KeepsNames made put gs = (v w : ℕ) → Names put v w → (t : QTerm) → is_aggregate t ≡ true → Within (term_aggregates t) gs → is_any (used v t) ≡ true → is_any (used w (made t)) ≡ true
 
-module _ (made : QTerm → QTerm) (put : Putting) (gs : List QAgg) (keeps : KeepsNames made put gs) (v w : ℕ) (names : Names put v w) where
+module _ (made : QTerm → QTerm) (put : Substitution) (gs : List QAgg) (keeps : KeepsNames made put gs) (v w : ℕ) (names : Names put v w) where
   attr_named : (var attr : ℕ) (b : Bool) → (var == v) ≡ b → is_any (cond b (attr ∷ []) []) ≡ true → is_any (used w (put var attr)) ≡ true
   attr_named var attr true e h = let same : var ≡ v = grind (arith, nat_tests, e) in subst (λ v. is_any (used w (put v attr)) ≡ true) (sym same) (names attr)
   attr_named var attr false e h = cc h
@@ -90,7 +90,7 @@ module _ (made : QTerm → QTerm) (put : Putting) (gs : List QAgg) (keeps : Keep
       (term_named t.term (within_left (term_aggregates t.term) (in_targets ts) gs k)) (targets_named ts (within_right (term_aggregates t.term) (in_targets ts) gs k)) h
 
 -- where no aggregate stands, none has to keep names
-pub none_keep : (put : Putting) → KeepsNames no_aggregate put []
+pub none_keep : (put : Substitution) → KeepsNames no_aggregate put []
 unfolding term_aggregates
 none_keep put v w names (Agg' mark (more_of-QAgg slot op source arg bys by links link qual rest)) h k used = absurd (k _ (inl refl))
 none_keep put v w names (Int n) h k used = cc h

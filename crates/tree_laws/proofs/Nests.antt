@@ -22,7 +22,7 @@ use Rattle.calculus.specs.Database.{Db, Relation, View, relation_at, view_at, is
 use Rattle.calculus.specs.Catalogue.{catalogue_at}
 use Rattle.calculus.specs.Stored.{Range, Kept, Viewed, range_at}
 use Rattle.calculus.specs.Aggregate.{source_kinds}
-use Rattle.calculus.specs.IsDatabase.{has_kind, var_kinds, query_stands, is_kind}
+use Rattle.calculus.specs.IsDatabase.{has_kind, var_kinds, valid_query, is_kind}
 use Rattle.calculus.specs.QueryParts.{aggregates_of, term_aggregates, qual_aggregates, query_aggregates, vars_of, targets_of, qual_of}
 use Rattle.quel_meaning.specs.KindsInQueries.{links_fit, fitting_kind, aggregate_kind, kind_of_row, kind_in_query, kinds_fit_in_query, query_fits, assignments_fit}
 use Rattle.quel_meaning.specs.FitQueries.{Allowed, source_fits, sources_fit, has_few_targets, reads_fit}
@@ -156,8 +156,8 @@ unfolding source_fits
 source_plain may db (Named key) h = refl
 source_plain may db (rows_of_query q) h =
     let outer = both_true (list_all may.source (vars_of q)) _ h in
-    let inner = both_true _ (has_few_targets q && query_stands db q) outer.1 in
-    not_any (query_aggregates q) (stands_plain db q (both_true (has_few_targets q) (query_stands db q) inner.1).1)
+    let inner = both_true _ (has_few_targets q && valid_query db q) outer.1 in
+    not_any (query_aggregates q) (stands_plain db q (both_true (has_few_targets q) (valid_query db q) inner.1).1)
 
 nested : (may : Allowed) (db : Db) (gs : List QAgg) → list_all (λ g. source_fits may db g.source) gs ≡ true → list_all links_plain gs ≡ true → list_all nests_none gs ≡ true
 nested may db [] h k = refl

@@ -9,9 +9,9 @@ use Rattle.calculus.specs.declared.schema.Permit.{Permit}
 use Rattle.calculus.specs.declared.schema.Rule.{Rule}
 use Rattle.calculus.specs.Keys.{same_key}
 use Rattle.calculus.specs.Limits.{most_permits, greatest_qual_size, most_levels}
-use Rattle.calculus.specs.Who.{Who, Free, Asks}
+use Rattle.calculus.specs.Who.{Who, Unrestricted, AsUser}
 use Rattle.calculus.specs.Database.{Db, Relation, relation_at, is_relation, permits_on}
-use Rattle.calculus.specs.IsDatabase.{IsDatabase, permit_stands, row_qual_stands}
+use Rattle.calculus.specs.IsDatabase.{IsDatabase, valid_permit, valid_row_qual}
 use Rattle.calculus.specs.Rights.{Right, covers, needs_none}
 use Rattle.calculus.specs.Sizes.{qual_size}
 use Rattle.calculus.specs.Spelled.{qual_is_spelled}
@@ -23,7 +23,7 @@ use Rattle.calculus_laws.proofs.SameRows.{all_at}
 use Rattle.calculus_laws.proofs.ViewAnswer.{found}
 use Rattle.view_text.specs.Replaced.{of_only}
 use Rattle.view_text.specs.Halves.{any_of}
-use Rattle.view_text.specs.TextOf.{permit_condition, covering, cut}
+use Rattle.view_text.specs.ExpansionOf.{permit_condition, covering, restriction}
 use Rattle.tree_laws.proofs.Scopes.{both_true}
 use Rattle.tree_laws.proofs.Joint.{both_are}
 use Rattle.tree_laws.proofs.Joined.{doubled, Low, low_any}
@@ -41,11 +41,11 @@ size_is q h =
 
 -- ---- how many permits stand on a relation
 
-none_on : (db : Db) (key : RelKey) (ps : List (RelKey × Permit)) → list_all (λ p. permit_stands db p.0 p.1) ps ≡ true → is_relation db key ≡ false
+none_on : (db : Db) (key : RelKey) (ps : List (RelKey × Permit)) → list_all (λ p. valid_permit db p.0 p.1) ps ≡ true → is_relation db key ≡ false
     → length (map (λ p. p.1) (filter (λ p. same_key p.0 key) ps)) ≤ 100
 none_on db key [] h lacks = omega arith
 none_on db key (p ∷ ps) h lacks =
-    let parts = both_true (permit_stands db p.0 p.1) (list_all (λ p. permit_stands db p.0 p.1) ps) h in
+    let parts = both_true (valid_permit db p.0 p.1) (list_all (λ p. valid_permit db p.0 p.1) ps) h in
     by (same_key p.0 key) refl (both_true (is_relation db p.0) _ parts.0).0 (none_on db key ps parts.1 lacks)
   where
     by : (b : Bool) → same_key p.0 key ≡ b → is_relation db p.0 ≡ true → length (map (λ p. p.1) (filter (λ p. same_key p.0 key) ps)) ≤ 100
@@ -106,9 +106,9 @@ module _ (db : Db) (d : IsDatabase db) where
   unfolding doubled
   hundred = omega arith
 
-  pub cut_low : (who : Who) (right : Right) (attrs : List ℕ) (key : RelKey) → Low 1008 (cut db who right attrs key) × (length (cut db who right attrs key) ≤ 1)
-  cut_low Free right attrs key = (tt, omega arith)
-  cut_low (Asks asker) right attrs key = by (needs_none db asker right key)
+  pub restriction_low : (who : Who) (right : Right) (attrs : List ℕ) (key : RelKey) → Low 1008 (restriction db who right attrs key) × (length (restriction db who right attrs key) ≤ 1)
+  restriction_low Unrestricted right attrs key = (tt, omega arith)
+  restriction_low (AsUser asker) right attrs key = by (needs_none db asker right key)
     where
       joined : qual_levels (any_of (map permit_condition (covering db asker right attrs key))) ≤ 1008
       joined =
@@ -127,18 +127,18 @@ module _ (db : Db) (d : IsDatabase db) where
 
   -- ---- rules
 
-  rule_low : (rel : RelKey) (rule : Rule) → (is_relation db rel && row_qual_stands db rel rule.qual) ≡ true → row_qual_is_storable rule.qual ≡ true → qual_levels rule.qual ≤ 1001
+  rule_low : (rel : RelKey) (rule : Rule) → (is_relation db rel && valid_row_qual db rel rule.qual) ≡ true → row_qual_is_storable rule.qual ≡ true → qual_levels rule.qual ≤ 1001
   rule_low rel rule stands stored =
-      let fits = (both_true (is_relation db rel) (row_qual_stands db rel rule.qual) stands).1 in
+      let fits = (both_true (is_relation db rel) (valid_row_qual db rel rule.qual) stands).1 in
       let size = size_is rule.qual stored in
       let low = qual_plain (kinds_at db rel ∷ []) rule.qual fits in
       omega (arith, size, low)
 
-  pub rules_low : (key : RelKey) (rules : List (RelKey × Rule)) → list_all (λ p. is_relation db p.0 && row_qual_stands db p.0 p.1.qual) rules ≡ true
+  pub rules_low : (key : RelKey) (rules : List (RelKey × Rule)) → list_all (λ p. is_relation db p.0 && valid_row_qual db p.0 p.1.qual) rules ≡ true
       → list_all (λ p. row_qual_is_storable p.1.qual) rules ≡ true → Low 1001 (map (λ r. r.qual) (map (λ p. p.1) (filter (λ p. same_key p.0 key) rules)))
   rules_low key [] h k = tt
   rules_low key (p ∷ rules) h k =
-      let stands = both_true (is_relation db p.0 && row_qual_stands db p.0 p.1.qual) (list_all (λ p. is_relation db p.0 && row_qual_stands db p.0 p.1.qual) rules) h in
+      let stands = both_true (is_relation db p.0 && valid_row_qual db p.0 p.1.qual) (list_all (λ p. is_relation db p.0 && valid_row_qual db p.0 p.1.qual) rules) h in
       let stored = both_true (row_qual_is_storable p.1.qual) (list_all (λ p. row_qual_is_storable p.1.qual) rules) k in
       by (same_key p.0 key) (rule_low p.0 p.1 stands.0 stored.0) (rules_low key rules stands.1 stored.1)
     where

@@ -1,4 +1,4 @@
--- What is put in place of attributes and aggregates adds so many levels at most, and what has a size has few.
+-- What is substituted for attributes and aggregates adds so many levels at most, and what has a size has few.
 use Rattle.std.proofs.Common.{◌≡◌, refl, sym, ap, ℕ, zero, suc, ◌+◌, ◌≤◌, max, true, List, [], ◌∷◌, map, is_some, arith}
 use Rattle.calculus.specs.declared.value.Kind.{Kind}
 use Rattle.calculus.specs.declared.query.RelKey.{RelKey}
@@ -13,7 +13,7 @@ use Rattle.calculus.specs.Kinds.{kind_of, kinds_fit}
 use Rattle.calculus.specs.QueryParts.{targets_of, qual_of, term_aggregates, qual_aggregates}
 use Rattle.calculus.specs.Sizes.{Measures, attr_size, term_size, qual_size}
 use Rattle.calculus_laws.proofs.Members.{Within}
-use Rattle.view_text.specs.Replaced.{Putting, replaced, replaced_in_qual, no_aggregate, further, moved, moved_qual, of_only}
+use Rattle.view_text.specs.Replaced.{Substitution, replaced, replaced_in_qual, no_aggregate, further, shifted, shifted_qual, of_only}
 use Rattle.tree_laws.proofs.Scopes.{both_true}
 use Rattle.tree_laws.proofs.Values.{within_left, within_right}
 use Rattle.tree_laws.proofs.Nests.{number_there, operated_there, joined_there, compared_there, text_there}
@@ -21,7 +21,7 @@ use Rattle.tree_laws.proofs.Joined.{Low}
 
 -- ---- what is put in
 
-module _ (made : QTerm → QTerm) (put : Putting) (m : ℕ) (gs : List QAgg) (puts : (v a : ℕ) → term_levels (put v a) ≤ suc m)
+module _ (made : QTerm → QTerm) (put : Substitution) (m : ℕ) (gs : List QAgg) (puts : (v a : ℕ) → term_levels (put v a) ≤ suc m)
     (makes : (t : QTerm) → 2 ≤ term_levels t → Within (term_aggregates t) gs → term_levels (made t) ≤ term_levels t + m) where
   pub term_replaced : (t : QTerm) → Within (term_aggregates t) gs → term_levels (replaced made put t) ≤ term_levels t + m
   unfolding replaced term_aggregates
@@ -64,26 +64,26 @@ module _ (made : QTerm → QTerm) (put : Putting) (m : ℕ) (gs : List QAgg) (pu
 pub none_made : (m : ℕ) (gs : List QAgg) (t : QTerm) → 2 ≤ term_levels t → Within (term_aggregates t) gs → term_levels (no_aggregate t) ≤ term_levels t + m
 none_made m gs t two w = omega (arith, two)
 
--- ---- what is moved
+-- ---- what is shifted
 
 further_low : (n v a : ℕ) → term_levels (further n v a) ≤ 1
 further_low n v a = omega arith
 
-pub moved_low : (n : ℕ) (t : QTerm) → term_levels (moved n t) ≤ term_levels t
-moved_low n t =
+pub shifted_low : (n : ℕ) (t : QTerm) → term_levels (shifted n t) ≤ term_levels t
+shifted_low n t =
     let more = term_replaced no_aggregate (further n) 0 (term_aggregates t) (further_low n) (none_made 0 (term_aggregates t)) t (λ g h. h) in omega (arith, more)
 
-moved_qual_low : (n : ℕ) (q : QQual) → qual_levels (moved_qual n q) ≤ qual_levels q
-moved_qual_low n q =
+shifted_qual_low : (n : ℕ) (q : QQual) → qual_levels (shifted_qual n q) ≤ qual_levels q
+shifted_qual_low n q =
     let more = qual_replaced no_aggregate (further n) 0 (qual_aggregates q) (further_low n) (none_made 0 (qual_aggregates q)) q (λ g h. h) in omega (arith, more)
 
-pub all_moved_low : (m n : ℕ) (qs : List QQual) → Low m qs → Low m (map (moved_qual n) qs)
-all_moved_low m n [] low = tt
-all_moved_low m n (q ∷ qs) low = let one = moved_qual_low n q in let own = low.0 in (omega (arith, one, own), all_moved_low m n qs low.1)
+pub all_shifted_low : (m n : ℕ) (qs : List QQual) → Low m qs → Low m (map (shifted_qual n) qs)
+all_shifted_low m n [] low = tt
+all_shifted_low m n (q ∷ qs) low = let one = shifted_qual_low n q in let own = low.0 in (omega (arith, one, own), all_shifted_low m n qs low.1)
 
 -- ---- what has a size
 
-module _ (put : Putting) (vars : Measures) (puts : (v a : ℕ) → term_levels (put v a) ≤ suc (attr_size vars v a)) where
+module _ (put : Substitution) (vars : Measures) (puts : (v a : ℕ) → term_levels (put v a) ≤ suc (attr_size vars v a)) where
   pub term_sized : (t : QTerm) → term_levels (replaced no_aggregate put t) ≤ suc (term_size vars t)
   unfolding replaced term_size
   term_sized (Int n) = omega arith

@@ -1,4 +1,4 @@
--- The text of a query's rows tells of them.
+-- The expansion of a query's rows tells of them.
 use Rattle.std.proofs.Common.{◌≡◌, refl, sym, ap, ◌∙◌, ℕ, zero, suc, true, ◌&&◌, List, [], ◌∷◌, map, Option, Some, None, Bool, false}
 use Rattle.std.proofs.lemmas.Cmp.{tied_itself}
 use Rattle.std.specs.List.{list_all}
@@ -21,21 +21,21 @@ use Rattle.calculus.specs.QueryParts.{term_aggregates, qual_aggregates, targets_
 use Rattle.calculus.specs.Targets.{target_values, rows_given}
 use Rattle.calculus_laws.proofs.Given.{given-is, is-given}
 use Rattle.calculus_laws.proofs.Members.{In, Chosen, choices-Chosen, Chosen-choices, has-In, In-has}
-use Rattle.calculus_laws.proofs.PutIn.{before-is}
-use Rattle.view_text.specs.declared.text.Text.{Text}
-use Rattle.view_text.specs.Replaced.{Putting, replaced, replaced_in_qual, no_aggregate}
-use Rattle.view_text.specs.Texts.{term_at, texts_vars, put_from, conditions_from}
-use Rattle.view_text.specs.TextOf.{has_value, put_terms, rows_conditions, settled, rows_text}
+use Rattle.calculus_laws.proofs.Substituted.{before-is}
+use Rattle.view_text.specs.declared.expansion.Expansion.{Expansion}
+use Rattle.view_text.specs.Replaced.{Substitution, replaced, replaced_in_qual, no_aggregate}
+use Rattle.view_text.specs.Expansions.{term_at, expansions_vars, substituted_from, conditions_from}
+use Rattle.view_text.specs.ExpansionOf.{has_value, substituted_terms, rows_conditions, settled, rows_expansion}
 use Rattle.tree_laws.proofs.Values.{without_value_has_none, StandsFor, makes_none, val_replaced, holds_replaced, within_itself}
 use Rattle.tree_laws.proofs.Scopes.{both_true}
-use Rattle.tree_laws.proofs.Within.{all_scoped, rows_text_scoped}
-use Rattle.tree_laws.proofs.Joint.{both_are, all_append, all_hold, kept_lists, IsRow, Tells, TellEach, to_rows, from_rows}
+use Rattle.tree_laws.proofs.Within.{all_scoped, rows_expansion_scoped}
+use Rattle.tree_laws.proofs.Joint.{both_are, all_append, all_hold, kept_lists, IsRow, Denotes, DenoteEach, to_rows, from_rows}
 
-pub each_scoped : (db : Db) (rowss : List (List Row)) (texts : List Text) → TellEach db rowss texts → all_scoped texts ≡ true
-each_scoped db [] [] tell = refl
-each_scoped db [] (text ∷ texts) tell = absurd tell
-each_scoped db (rows ∷ more) [] tell = absurd tell
-each_scoped db (rows ∷ more) (text ∷ texts) tell = λ i. tell.0.scoped i && each_scoped db more texts tell.1 i
+pub each_scoped : (db : Db) (rowss : List (List Row)) (expansions : List Expansion) → DenoteEach db rowss expansions → all_scoped expansions ≡ true
+each_scoped db [] [] denote = refl
+each_scoped db [] (expansion ∷ expansions) denote = absurd denote
+each_scoped db (rows ∷ more) [] denote = absurd denote
+each_scoped db (rows ∷ more) (expansion ∷ expansions) denote = λ i. denote.0.scoped i && each_scoped db more expansions denote.1 i
 
 -- a value equals itself, and no value equals nothing
 equals_itself : (v : Option Value) → compared_values Eq v v ≡ is_some v
@@ -57,7 +57,7 @@ nowhere zero = refl
 nowhere (suc a) = refl
 
 -- targets, and what stands in their place for an assignment that tells of theirs
-module _ (put : Putting) (e f : Env) (stands : StandsFor put f e) where
+module _ (put : Substitution) (e f : Env) (stands : StandsFor put f e) where
   -- the term in place of a target
   abbrev term_put : Target → QTerm
   term_put t = replaced no_aggregate put t.term
@@ -98,46 +98,46 @@ settled_hold db [] conditions [] chosen = by (list_all (λ q. holds no_aggs q []
 settled_hold db [] conditions (row ∷ f) chosen = absurd chosen
 settled_hold db (key ∷ vars) conditions f chosen = refl
 
-module _ (db : Db) (q : Query) (rowss : List (List Row)) (texts : List Text) (tell : TellEach db rowss texts) where
+module _ (db : Db) (q : Query) (rowss : List (List Row)) (expansions : List Expansion) (denote : DenoteEach db rowss expansions) where
   -- the qualification, and what is needed beside it
   abbrev qual_put : QQual
-  qual_put = replaced_in_qual no_aggregate (put_from 0 texts) (qual_of q)
+  qual_put = replaced_in_qual no_aggregate (substituted_from 0 expansions) (qual_of q)
 
   abbrev needed : List QQual
-  needed = map has_value (put_terms texts q)
+  needed = map has_value (substituted_terms expansions q)
 
-  conditions_are : (f : Env) → Chosen (kept_lists db (texts_vars texts)) f
-      → all_hold no_aggs (rows_text texts q).conditions f ≡ (holds no_aggs qual_put f && (all_hold no_aggs needed f && all_hold no_aggs (conditions_from 0 texts) f))
-  conditions_are f chosen = settled_hold db (texts_vars texts) (rows_conditions texts q) f chosen ∙ ap (λ b. holds no_aggs qual_put f && b) (all_append (λ q. holds no_aggs q f) needed (conditions_from 0 texts))
+  conditions_are : (f : Env) → Chosen (kept_lists db (expansions_vars expansions)) f
+      → all_hold no_aggs (rows_expansion expansions q).conditions f ≡ (holds no_aggs qual_put f && (all_hold no_aggs needed f && all_hold no_aggs (conditions_from 0 expansions) f))
+  conditions_are f chosen = settled_hold db (expansions_vars expansions) (rows_conditions expansions q) f chosen ∙ ap (λ b. holds no_aggs qual_put f && b) (all_append (λ q. holds no_aggs q f) needed (conditions_from 0 expansions))
 
-  to : (f : Env) → Chosen (kept_lists db (texts_vars texts)) f → all_hold no_aggs (rows_text texts q).conditions f ≡ true
-      → (row : Row) × In row (rows_given no_aggs q (choices rowss)) × IsRow (rows_text texts q) row f
+  to : (f : Env) → Chosen (kept_lists db (expansions_vars expansions)) f → all_hold no_aggs (rows_expansion expansions q).conditions f ≡ true
+      → (row : Row) × In row (rows_given no_aggs q (choices rowss)) × IsRow (rows_expansion expansions q) row f
   to f chosen h =
-      let outer = both_true (holds no_aggs qual_put f) (all_hold no_aggs needed f && all_hold no_aggs (conditions_from 0 texts) f) (sym (conditions_are f chosen) ∙ h) in
-      let inner = both_true (all_hold no_aggs needed f) (all_hold no_aggs (conditions_from 0 texts) f) outer.1 in
-      let (e, there, says) = to_rows db no_aggs rowss texts 0 [] f refl tell chosen inner.1 in
-      let (row, values) = there_is (target_values no_aggs (targets_of q) e) (sym (values_needed (put_from 0 texts) e f says.attributes (targets_of q)) ∙ inner.0) in (
+      let outer = both_true (holds no_aggs qual_put f) (all_hold no_aggs needed f && all_hold no_aggs (conditions_from 0 expansions) f) (sym (conditions_are f chosen) ∙ h) in
+      let inner = both_true (all_hold no_aggs needed f) (all_hold no_aggs (conditions_from 0 expansions) f) outer.1 in
+      let (e, there, says) = to_rows db no_aggs rowss expansions 0 [] f refl denote chosen inner.1 in
+      let (row, values) = there_is (target_values no_aggs (targets_of q) e) (sym (values_needed (substituted_from 0 expansions) e f says.attributes (targets_of q)) ∙ inner.0) in (
         row,
         has-In (rows_given no_aggs q (choices rowss)) row
             (is-given no_aggs q (choices rowss) row
-            (e, Chosen-choices rowss e there, sym (holds_put (put_from 0 texts) e f says.attributes (qual_of q)) ∙ outer.0, values)),
-        row_at (put_from 0 texts) e f says.attributes (targets_of q) row values,
+            (e, Chosen-choices rowss e there, sym (holds_put (substituted_from 0 expansions) e f says.attributes (qual_of q)) ∙ outer.0, values)),
+        row_at (substituted_from 0 expansions) e f says.attributes (targets_of q) row values,
       )
 
   from : (row : Row) → In row (rows_given no_aggs q (choices rowss))
-      → (f : Env) × Chosen (kept_lists db (texts_vars texts)) f × (all_hold no_aggs (rows_text texts q).conditions f ≡ true) × IsRow (rows_text texts q) row f
+      → (f : Env) × Chosen (kept_lists db (expansions_vars expansions)) f × (all_hold no_aggs (rows_expansion expansions q).conditions f ≡ true) × IsRow (rows_expansion expansions q) row f
   from row inside =
       let (e, there, holding, values) = given-is no_aggs q (choices rowss) row (In-has (rows_given no_aggs q (choices rowss)) row inside) in
-      let (f, chosen, says) = from_rows db no_aggs rowss texts 0 [] e refl tell (choices-Chosen rowss e there) in (
+      let (f, chosen, says) = from_rows db no_aggs rowss expansions 0 [] e refl denote (choices-Chosen rowss e there) in (
         f,
         chosen,
         conditions_are f chosen
-            ∙ both_are (holds no_aggs qual_put f) (all_hold no_aggs needed f && all_hold no_aggs (conditions_from 0 texts) f)
-            (holds_put (put_from 0 texts) e f says.attributes (qual_of q) ∙ holding)
-            (both_are (all_hold no_aggs needed f) (all_hold no_aggs (conditions_from 0 texts) f)
-            (values_needed (put_from 0 texts) e f says.attributes (targets_of q) ∙ ap is_some values) says.conditions),
-        row_at (put_from 0 texts) e f says.attributes (targets_of q) row values,
+            ∙ both_are (holds no_aggs qual_put f) (all_hold no_aggs needed f && all_hold no_aggs (conditions_from 0 expansions) f)
+            (holds_put (substituted_from 0 expansions) e f says.attributes (qual_of q) ∙ holding)
+            (both_are (all_hold no_aggs needed f) (all_hold no_aggs (conditions_from 0 expansions) f)
+            (values_needed (substituted_from 0 expansions) e f says.attributes (targets_of q) ∙ ap is_some values) says.conditions),
+        row_at (substituted_from 0 expansions) e f says.attributes (targets_of q) row values,
       )
 
-  pub rows_told_by : Tells db (rows_given no_aggs q (choices rowss)) (rows_text texts q)
-  rows_told_by = record { scoped = rows_text_scoped texts q (each_scoped db rowss texts tell); to = to; from = from }
+  pub rows_denoted_by : Denotes db (rows_given no_aggs q (choices rowss)) (rows_expansion expansions q)
+  rows_denoted_by = record { scoped = rows_expansion_scoped expansions q (each_scoped db rowss expansions denote); to = to; from = from }

@@ -10,7 +10,7 @@ use Rattle.calculus.specs.Tree.{neg, abs, operation, concat, both, either, negat
 use Rattle.calculus.specs.Kinds.{kind_in, attribute_kind, kind_of, number_kind, operated_kind, joined_kind, comparable, is_text_kind, kinds_fit, is_number_kind}
 use Rattle.calculus.specs.Lists.{is_any}
 use Rattle.calculus.specs.Used.{used, used_in_qual}
-use Rattle.view_text.specs.Replaced.{Putting, moved, moved_qual, replaced, replaced_in_qual, no_aggregate}
+use Rattle.view_text.specs.Replaced.{Substitution, shifted, shifted_qual, replaced, replaced_in_qual, no_aggregate}
 use Rattle.view_text.specs.Scoped.{is_within, is_qual_within}
 use Rattle.tree_laws.proofs.Halves.{any_append}
 use Rattle.tree_laws.proofs.Named.{left_true, right_true}
@@ -21,7 +21,7 @@ use Rattle.tree_laws.proofs.Nests.{number_there, operated_there, joined_there, c
 abbrev pub VarKinds : Type 0
 VarKinds = List (List Kind)
 
--- ---- what has moved
+-- ---- what is shifted
 
 get_front : (seg post : VarKinds) (v : ℕ) → nat_lt v (length seg) ≡ true → slice_get (seg ++ post) v ≡ slice_get seg v
 get_front [] post v h = absurd (grind (arith, nat_tests, h))
@@ -38,38 +38,38 @@ unfolding attribute_kind
 attribute_further pre seg post v a h = ap (λ r. kind_in r a) (get_behind pre (seg ++ post) (length pre + v) v refl ∙ get_front seg post v h)
 
 module _ (pre seg post : VarKinds) where
-  pub kind_moved : (t : QTerm) → is_within (length seg) t ≡ true → kind_of (moved (length pre) t) (pre ++ (seg ++ post)) ≡ kind_of t seg
+  pub kind_shifted : (t : QTerm) → is_within (length seg) t ≡ true → kind_of (shifted (length pre) t) (pre ++ (seg ++ post)) ≡ kind_of t seg
   unfolding kind_of replaced is_within
-  kind_moved (Int n) h = refl
-  kind_moved (Chars bytes) h = refl
-  kind_moved (Attr var attr) h = attribute_further pre seg post var attr h
-  kind_moved (neg t) h = ap number_kind (kind_moved t h)
-  kind_moved (abs t) h = ap number_kind (kind_moved t h)
-  kind_moved (operation op t u) h = let parts = both_true (is_within (length seg) t) (is_within (length seg) u) h in λ i. operated_kind (kind_moved t parts.0 i) (kind_moved u parts.1 i)
-  kind_moved (concat t u) h = let parts = both_true (is_within (length seg) t) (is_within (length seg) u) h in λ i. joined_kind (kind_moved t parts.0 i) (kind_moved u parts.1 i)
-  kind_moved (Agg' mark row) h = cc h
+  kind_shifted (Int n) h = refl
+  kind_shifted (Chars bytes) h = refl
+  kind_shifted (Attr var attr) h = attribute_further pre seg post var attr h
+  kind_shifted (neg t) h = ap number_kind (kind_shifted t h)
+  kind_shifted (abs t) h = ap number_kind (kind_shifted t h)
+  kind_shifted (operation op t u) h = let parts = both_true (is_within (length seg) t) (is_within (length seg) u) h in λ i. operated_kind (kind_shifted t parts.0 i) (kind_shifted u parts.1 i)
+  kind_shifted (concat t u) h = let parts = both_true (is_within (length seg) t) (is_within (length seg) u) h in λ i. joined_kind (kind_shifted t parts.0 i) (kind_shifted u parts.1 i)
+  kind_shifted (Agg' mark row) h = cc h
 
-  pub fit_moved : (q : QQual) → is_qual_within (length seg) q ≡ true → kinds_fit (moved_qual (length pre) q) (pre ++ (seg ++ post)) ≡ kinds_fit q seg
+  pub fit_shifted : (q : QQual) → is_qual_within (length seg) q ≡ true → kinds_fit (shifted_qual (length pre) q) (pre ++ (seg ++ post)) ≡ kinds_fit q seg
   unfolding kinds_fit replaced_in_qual is_qual_within
-  fit_moved True h = refl
-  fit_moved (Cmp op t u) h = let parts = both_true (is_within (length seg) t) (is_within (length seg) u) h in λ i. comparable (kind_moved t parts.0 i) (kind_moved u parts.1 i)
-  fit_moved (Like t pattern same) h = ap is_text_kind (kind_moved t h)
-  fit_moved (both p q) h = let parts = both_true (is_qual_within (length seg) p) (is_qual_within (length seg) q) h in λ i. fit_moved p parts.0 i && fit_moved q parts.1 i
-  fit_moved (either p q) h = let parts = both_true (is_qual_within (length seg) p) (is_qual_within (length seg) q) h in λ i. fit_moved p parts.0 i && fit_moved q parts.1 i
-  fit_moved (negated p) h = fit_moved p h
+  fit_shifted True h = refl
+  fit_shifted (Cmp op t u) h = let parts = both_true (is_within (length seg) t) (is_within (length seg) u) h in λ i. comparable (kind_shifted t parts.0 i) (kind_shifted u parts.1 i)
+  fit_shifted (Like t pattern same) h = ap is_text_kind (kind_shifted t h)
+  fit_shifted (both p q) h = let parts = both_true (is_qual_within (length seg) p) (is_qual_within (length seg) q) h in λ i. fit_shifted p parts.0 i && fit_shifted q parts.1 i
+  fit_shifted (either p q) h = let parts = both_true (is_qual_within (length seg) p) (is_qual_within (length seg) q) h in λ i. fit_shifted p parts.0 i && fit_shifted q parts.1 i
+  fit_shifted (negated p) h = fit_shifted p h
 
   -- each of these fits
   abbrev pub all_fit : VarKinds → List QQual → Bool
   all_fit vars qs = list_all (λ q. kinds_fit q vars) qs
 
-  pub all_fit_moved : (qs : List QQual) → list_all (is_qual_within (length seg)) qs ≡ true → list_all (λ q. kinds_fit q (pre ++ (seg ++ post))) (map (moved_qual (length pre)) qs) ≡ list_all (λ q. kinds_fit q seg) qs
-  all_fit_moved [] h = refl
-  all_fit_moved (q ∷ qs) h = let parts = both_true (is_qual_within (length seg) q) (list_all (is_qual_within (length seg)) qs) h in λ i. fit_moved q parts.0 i && all_fit_moved qs parts.1 i
+  pub all_fit_shifted : (qs : List QQual) → list_all (is_qual_within (length seg)) qs ≡ true → list_all (λ q. kinds_fit q (pre ++ (seg ++ post))) (map (shifted_qual (length pre)) qs) ≡ list_all (λ q. kinds_fit q seg) qs
+  all_fit_shifted [] h = refl
+  all_fit_shifted (q ∷ qs) h = let parts = both_true (is_qual_within (length seg) q) (list_all (is_qual_within (length seg)) qs) h in λ i. fit_shifted q parts.0 i && all_fit_shifted qs parts.1 i
 
 -- ---- what is put in
 
 -- what is put in for an attribute that is there, of a variable of which this is known, has its kind
-abbrev pub HasKinds : (ℕ → Type 0) → Putting → VarKinds → VarKinds → Type 0
+abbrev pub HasKinds : (ℕ → Type 0) → Substitution → VarKinds → VarKinds → Type 0
 HasKinds Known put new vars = (v a : ℕ) → Known v → is_some (attribute_kind vars v a) ≡ true → kind_of (put v a) new ≡ attribute_kind vars v a
 
 -- of each variable that is named this is known
@@ -89,7 +89,7 @@ own_name v a = by (v == v) (grind (arith, nat_tests))
     by true h = refl
     by false h = cc h
 
-module _ (Known : ℕ → Type 0) (put : Putting) (new vars : VarKinds) (has : HasKinds Known put new vars) where
+module _ (Known : ℕ → Type 0) (put : Substitution) (new vars : VarKinds) (has : HasKinds Known put new vars) where
   pub kind_replaced : (t : QTerm) → Names Known (λ v. used v t) → is_some (kind_of t vars) ≡ true → kind_of (replaced no_aggregate put t) new ≡ kind_of t vars
   unfolding kind_of replaced
   kind_replaced (Int n) names h = refl

@@ -7,7 +7,7 @@ use Rattle.calculus.specs.declared.query.QTerm.{QTerm, Int, Chars, Attr, Agg'}
 use Rattle.calculus.specs.declared.query.QQual.{QQual, True, Cmp, Like}
 use Rattle.calculus.specs.Tree.{neg, abs, operation, concat, both, either, negated}
 use Rattle.calculus.specs.Term.{Env, Aggs, val, holds, value_in, attribute_value, opposite_value, value_without_sign, operated_values, joined_values, compared_values, matched_value}
-use Rattle.view_text.specs.Replaced.{moved, moved_qual, replaced, replaced_in_qual}
+use Rattle.view_text.specs.Replaced.{shifted, shifted_qual, replaced, replaced_in_qual}
 use Rattle.view_text.specs.Scoped.{is_within, is_qual_within}
 
 pub both_true : (b c : Bool) → (b && c) ≡ true → (b ≡ true) × (c ≡ true)
@@ -33,33 +33,33 @@ attribute_further pre seg post v a h = ap (λ r. value_in r a) (get_behind pre (
 -- ---- terms and qualifications
 
 module _ (aggs bggs : Aggs) (pre seg post : Env) where
-  pub val_moved : (t : QTerm) → is_within (length seg) t ≡ true → val aggs (moved (length pre) t) (pre ++ (seg ++ post)) ≡ val bggs t seg
+  pub val_shifted : (t : QTerm) → is_within (length seg) t ≡ true → val aggs (shifted (length pre) t) (pre ++ (seg ++ post)) ≡ val bggs t seg
   unfolding val replaced is_within
-  val_moved (Int n) h = refl
-  val_moved (Chars bytes) h = refl
-  val_moved (Attr var attr) h = attribute_further pre seg post var attr h
-  val_moved (neg t) h = ap opposite_value (val_moved t h)
-  val_moved (abs t) h = ap value_without_sign (val_moved t h)
-  val_moved (operation op t u) h = let parts = both_true (is_within (length seg) t) (is_within (length seg) u) h in
-      λ i. operated_values op (val_moved t parts.0 i) (val_moved u parts.1 i)
-  val_moved (concat t u) h = let parts = both_true (is_within (length seg) t) (is_within (length seg) u) h in
-      λ i. joined_values (val_moved t parts.0 i) (val_moved u parts.1 i)
-  val_moved (Agg' mark row) h = cc h
+  val_shifted (Int n) h = refl
+  val_shifted (Chars bytes) h = refl
+  val_shifted (Attr var attr) h = attribute_further pre seg post var attr h
+  val_shifted (neg t) h = ap opposite_value (val_shifted t h)
+  val_shifted (abs t) h = ap value_without_sign (val_shifted t h)
+  val_shifted (operation op t u) h = let parts = both_true (is_within (length seg) t) (is_within (length seg) u) h in
+      λ i. operated_values op (val_shifted t parts.0 i) (val_shifted u parts.1 i)
+  val_shifted (concat t u) h = let parts = both_true (is_within (length seg) t) (is_within (length seg) u) h in
+      λ i. joined_values (val_shifted t parts.0 i) (val_shifted u parts.1 i)
+  val_shifted (Agg' mark row) h = cc h
 
-  pub holds_moved : (q : QQual) → is_qual_within (length seg) q ≡ true → holds aggs (moved_qual (length pre) q) (pre ++ (seg ++ post)) ≡ holds bggs q seg
+  pub holds_shifted : (q : QQual) → is_qual_within (length seg) q ≡ true → holds aggs (shifted_qual (length pre) q) (pre ++ (seg ++ post)) ≡ holds bggs q seg
   unfolding holds replaced_in_qual is_qual_within
-  holds_moved True h = refl
-  holds_moved (Cmp op t u) h = let parts = both_true (is_within (length seg) t) (is_within (length seg) u) h in
-      λ i. compared_values op (val_moved t parts.0 i) (val_moved u parts.1 i)
-  holds_moved (Like t pattern same) h = ap (matched_value pattern same) (val_moved t h)
-  holds_moved (both p q) h = let parts = both_true (is_qual_within (length seg) p) (is_qual_within (length seg) q) h in
-      λ i. holds_moved p parts.0 i && holds_moved q parts.1 i
-  holds_moved (either p q) h = let parts = both_true (is_qual_within (length seg) p) (is_qual_within (length seg) q) h in
-      λ i. holds_moved p parts.0 i || holds_moved q parts.1 i
-  holds_moved (negated p) h = ap not (holds_moved p h)
+  holds_shifted True h = refl
+  holds_shifted (Cmp op t u) h = let parts = both_true (is_within (length seg) t) (is_within (length seg) u) h in
+      λ i. compared_values op (val_shifted t parts.0 i) (val_shifted u parts.1 i)
+  holds_shifted (Like t pattern same) h = ap (matched_value pattern same) (val_shifted t h)
+  holds_shifted (both p q) h = let parts = both_true (is_qual_within (length seg) p) (is_qual_within (length seg) q) h in
+      λ i. holds_shifted p parts.0 i && holds_shifted q parts.1 i
+  holds_shifted (either p q) h = let parts = both_true (is_qual_within (length seg) p) (is_qual_within (length seg) q) h in
+      λ i. holds_shifted p parts.0 i || holds_shifted q parts.1 i
+  holds_shifted (negated p) h = ap not (holds_shifted p h)
 
-  pub all_moved : (qs : List QQual) → list_all (is_qual_within (length seg)) qs ≡ true
-      → list_all (λ q. holds aggs q (pre ++ (seg ++ post))) (map (moved_qual (length pre)) qs) ≡ list_all (λ q. holds bggs q seg) qs
-  all_moved [] h = refl
-  all_moved (q ∷ qs) h = let parts = both_true (is_qual_within (length seg) q) (list_all (is_qual_within (length seg)) qs) h in
-      λ i. holds_moved q parts.0 i && all_moved qs parts.1 i
+  pub all_shifted : (qs : List QQual) → list_all (is_qual_within (length seg)) qs ≡ true
+      → list_all (λ q. holds aggs q (pre ++ (seg ++ post))) (map (shifted_qual (length pre)) qs) ≡ list_all (λ q. holds bggs q seg) qs
+  all_shifted [] h = refl
+  all_shifted (q ∷ qs) h = let parts = both_true (is_qual_within (length seg) q) (list_all (is_qual_within (length seg)) qs) h in
+      λ i. holds_shifted q parts.0 i && all_shifted qs parts.1 i

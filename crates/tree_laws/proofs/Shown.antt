@@ -13,39 +13,39 @@ use Rattle.calculus.specs.VariableRows.{rows_of}
 use Rattle.calculus.specs.Who.{Who}
 use Rattle.calculus_laws.proofs.Members.{choices-Chosen, Chosen-choices}
 use Rattle.calculus_laws.proofs.Asked.{In-Contains, Contains-In}
-use Rattle.view_text.specs.declared.text.Text.{Text}
-use Rattle.view_text.specs.Texts.{used_text}
+use Rattle.view_text.specs.declared.expansion.Expansion.{Expansion}
+use Rattle.view_text.specs.Expansions.{used_expansion}
 use Rattle.view_text.specs.Scoped.{is_scoped}
-use Rattle.view_text.specs.TextOf.{text_of}
-use Rattle.view_text.specs.PutIn.{put_in}
-use Rattle.tree_laws.specs.Telling.{HasRow, TellsOf}
-use Rattle.tree_laws.proofs.Joint.{kept_lists, all_hold, Tells}
-use Rattle.tree_laws.proofs.Told.{all_told}
+use Rattle.view_text.specs.ExpansionOf.{expansion_of}
+use Rattle.view_text.specs.Expanded.{expanded}
+use Rattle.tree_laws.specs.Denoting.{HasRow, DenotesOf}
+use Rattle.tree_laws.proofs.Joint.{kept_lists, all_hold, Denotes}
+use Rattle.tree_laws.proofs.Denoted.{all_denoted}
 use Rattle.tree_laws.proofs.Sound.{no_views, each_kept_at, used_sound, all_sound}
 
-shown : (db : Db) (rows : List Row) (text : Text) → Tells db rows text → TellsOf db rows text
-shown db rows text tells = record { one_of_them = to; each_of_them = from }
+shown : (db : Db) (rows : List Row) (expansion : Expansion) → Denotes db rows expansion → DenotesOf db rows expansion
+shown db rows expansion denotes = record { one_of_them = to; each_of_them = from }
   where
-    to : (e : Env) → Contains (choices (kept_lists db text.vars)) e → all_hold no_aggs text.conditions e ≡ true → (row : Row) × Contains rows row × HasRow db text row e
+    to : (e : Env) → Contains (choices (kept_lists db expansion.vars)) e → all_hold no_aggs expansion.conditions e ≡ true → (row : Row) × Contains rows row × HasRow db expansion row e
     to e chosen holding =
-        let (row, inside, values) = tells.to e (choices-Chosen (kept_lists db text.vars) e (Contains-In (choices (kept_lists db text.vars)) e chosen)) holding in
+        let (row, inside, values) = denotes.to e (choices-Chosen (kept_lists db expansion.vars) e (Contains-In (choices (kept_lists db expansion.vars)) e chosen)) holding in
         (row, In-Contains rows row inside, record { chosen = chosen; holding = holding; values = values })
 
-    from : (row : Row) → Contains rows row → (e : Env) × HasRow db text row e
+    from : (row : Row) → Contains rows row → (e : Env) × HasRow db expansion row e
     from row inside =
-        let (e, chosen, holding, values) = tells.from row (Contains-In rows row inside) in
-        (e, record { chosen = In-Contains (choices (kept_lists db text.vars)) e (Chosen-choices (kept_lists db text.vars) e chosen); holding = holding; values = values })
+        let (e, chosen, holding, values) = denotes.from row (Contains-In rows row inside) in
+        (e, record { chosen = In-Contains (choices (kept_lists db expansion.vars)) e (Chosen-choices (kept_lists db expansion.vars) e chosen); holding = holding; values = values })
 
-pub text_tells : (db : Db) (who : Who) (key : RelKey) (attrs : List ℕ) → TellsOf db (rows_of db who key attrs) (text_of db who key attrs)
-text_tells db who key attrs = shown db (rows_of db who key attrs) (text_of db who key attrs) (all_told db who key attrs)
+pub expansion_denotes : (db : Db) (who : Who) (key : RelKey) (attrs : List ℕ) → DenotesOf db (rows_of db who key attrs) (expansion_of db who key attrs)
+expansion_denotes db who key attrs = shown db (rows_of db who key attrs) (expansion_of db who key attrs) (all_denoted db who key attrs)
 
-pub text_kept : (db : Db) → IsDatabase db → (who : Who) (key : RelKey) (attrs : List ℕ) → no_views db (text_of db who key attrs).vars ≡ true
-text_kept db d who key attrs = (all_sound db who d key attrs).kept
+pub expansion_kept : (db : Db) → IsDatabase db → (who : Who) (key : RelKey) (attrs : List ℕ) → no_views db (expansion_of db who key attrs).vars ≡ true
+expansion_kept db d who key attrs = (all_sound db who d key attrs).kept
 
-pub text_scoped : (db : Db) (who : Who) (key : RelKey) (attrs : List ℕ) → is_scoped (text_of db who key attrs) ≡ true
-text_scoped db who key attrs = (all_told db who key attrs).scoped
+pub expansion_scoped : (db : Db) (who : Who) (key : RelKey) (attrs : List ℕ) → is_scoped (expansion_of db who key attrs) ≡ true
+expansion_scoped db who key attrs = (all_denoted db who key attrs).scoped
 
-pub query_kept : (db : Db) → IsDatabase db → (who : Who) (q : Query) → no_views db (vars_of (put_in db who q)) ≡ true
-unfolding put_in
+pub query_kept : (db : Db) → IsDatabase db → (who : Who) (q : Query) → no_views db (vars_of (expanded db who q)) ≡ true
+unfolding expanded
 query_kept db d who q =
-    each_kept_at db (λ v key. used_text (text_of db who) key (used_in_query v q)) (λ v key. used_sound db (text_of db who) (all_sound db who d) key (used_in_query v q)) 0 (vars_of q)
+    each_kept_at db (λ v key. used_expansion (expansion_of db who) key (used_in_query v q)) (λ v key. used_sound db (expansion_of db who) (all_sound db who d) key (used_in_query v q)) 0 (vars_of q)

@@ -12,11 +12,11 @@ use Rattle.calculus.specs.Who.{Who}
 use Rattle.calculus.specs.Database.{Db}
 use Rattle.calculus.specs.QueryParts.{aggregates_of, term_aggregates, qual_aggregates, query_aggregates, targets_of, qual_of}
 use Rattle.quel_meaning.specs.FitQueries.{slots_count_from, slots_count_up}
-use Rattle.view_text.specs.declared.text.Text.{Text}
-use Rattle.view_text.specs.Replaced.{Putting, replaced, replaced_in_qual, replaced_target, aggregate_at, at_slot, listed}
+use Rattle.view_text.specs.declared.expansion.Expansion.{Expansion}
+use Rattle.view_text.specs.Replaced.{Substitution, replaced, replaced_in_qual, replaced_target, aggregate_at, at_slot, listed}
 use Rattle.view_text.specs.Halves.{all_of}
-use Rattle.view_text.specs.Texts.{texts_vars, put_from, conditions_from}
-use Rattle.view_text.specs.PutIn.{put_query, put_aggregate, put_row, put_made, put_over}
+use Rattle.view_text.specs.Expansions.{expansions_vars, substituted_from, conditions_from}
+use Rattle.view_text.specs.Expanded.{substituted_query, expanded_aggregate, put_row, expanded_made, expanded_over}
 use Rattle.view_text.proofs.Within.{left_true, right_true}
 
 -- ---- aggregates at their slots
@@ -51,12 +51,12 @@ counted f n before (g ∷ gs) e h =
 
 -- ---- what is put in of the list
 
-in_row : (db : Db) (who : Who) (put : Putting) (made : List QAgg) {n : _} (row : Row_of-QAgg n) → AreAt made (put_aggregate db who put) (aggregates_of row) → at_slot made row ≡ put_row db who put row
+in_row : (db : Db) (who : Who) (put : Substitution) (made : List QAgg) {n : _} (row : Row_of-QAgg n) → AreAt made (expanded_aggregate db who put) (aggregates_of row) → at_slot made row ≡ put_row db who put row
 in_row db who put made end_of-QAgg h = refl
 in_row db who put made (more_of-QAgg slot op source arg bys by links link qual rest) h = h.0
 
-in_term : (db : Db) (who : Who) (put : Putting) (made : List QAgg) (t : QTerm) → AreAt made (put_aggregate db who put) (term_aggregates t)
-    → replaced (listed made) put t ≡ replaced (put_made db who put) put t
+in_term : (db : Db) (who : Who) (put : Substitution) (made : List QAgg) (t : QTerm) → AreAt made (expanded_aggregate db who put) (term_aggregates t)
+    → replaced (listed made) put t ≡ replaced (expanded_made db who put) put t
 unfolding term_aggregates replaced
 in_term db who put made (Int n) h = refl
 in_term db who put made (Chars bytes) h = refl
@@ -64,50 +64,50 @@ in_term db who put made (Attr var attr) h = refl
 in_term db who put made (neg t) h = ap (λ t. neg t) (in_term db who put made t h)
 in_term db who put made (abs t) h = ap (λ t. abs t) (in_term db who put made t h)
 in_term db who put made (operation op t u) h = λ i. operation op
-    (in_term db who put made t (front made (put_aggregate db who put) (term_aggregates t) (term_aggregates u) h) i)
-    (in_term db who put made u (back made (put_aggregate db who put) (term_aggregates t) (term_aggregates u) h) i)
+    (in_term db who put made t (front made (expanded_aggregate db who put) (term_aggregates t) (term_aggregates u) h) i)
+    (in_term db who put made u (back made (expanded_aggregate db who put) (term_aggregates t) (term_aggregates u) h) i)
 in_term db who put made (concat t u) h = λ i. concat
-    (in_term db who put made t (front made (put_aggregate db who put) (term_aggregates t) (term_aggregates u) h) i)
-    (in_term db who put made u (back made (put_aggregate db who put) (term_aggregates t) (term_aggregates u) h) i)
+    (in_term db who put made t (front made (expanded_aggregate db who put) (term_aggregates t) (term_aggregates u) h) i)
+    (in_term db who put made u (back made (expanded_aggregate db who put) (term_aggregates t) (term_aggregates u) h) i)
 in_term db who put made (Agg' mark row) h = in_row db who put made row h
 
-in_qual : (db : Db) (who : Who) (put : Putting) (made : List QAgg) (q : QQual) → AreAt made (put_aggregate db who put) (qual_aggregates q)
-    → replaced_in_qual (listed made) put q ≡ replaced_in_qual (put_made db who put) put q
+in_qual : (db : Db) (who : Who) (put : Substitution) (made : List QAgg) (q : QQual) → AreAt made (expanded_aggregate db who put) (qual_aggregates q)
+    → replaced_in_qual (listed made) put q ≡ replaced_in_qual (expanded_made db who put) put q
 unfolding qual_aggregates replaced_in_qual
 in_qual db who put made True h = refl
 in_qual db who put made (Cmp op t u) h = λ i. Cmp op
-    (in_term db who put made t (front made (put_aggregate db who put) (term_aggregates t) (term_aggregates u) h) i)
-    (in_term db who put made u (back made (put_aggregate db who put) (term_aggregates t) (term_aggregates u) h) i)
+    (in_term db who put made t (front made (expanded_aggregate db who put) (term_aggregates t) (term_aggregates u) h) i)
+    (in_term db who put made u (back made (expanded_aggregate db who put) (term_aggregates t) (term_aggregates u) h) i)
 in_qual db who put made (Like t pattern same) h = ap (λ t. Like t pattern same) (in_term db who put made t h)
 in_qual db who put made (both p q) h = λ i. both
-    (in_qual db who put made p (front made (put_aggregate db who put) (qual_aggregates p) (qual_aggregates q) h) i)
-    (in_qual db who put made q (back made (put_aggregate db who put) (qual_aggregates p) (qual_aggregates q) h) i)
+    (in_qual db who put made p (front made (expanded_aggregate db who put) (qual_aggregates p) (qual_aggregates q) h) i)
+    (in_qual db who put made q (back made (expanded_aggregate db who put) (qual_aggregates p) (qual_aggregates q) h) i)
 in_qual db who put made (either p q) h = λ i. either
-    (in_qual db who put made p (front made (put_aggregate db who put) (qual_aggregates p) (qual_aggregates q) h) i)
-    (in_qual db who put made q (back made (put_aggregate db who put) (qual_aggregates p) (qual_aggregates q) h) i)
+    (in_qual db who put made p (front made (expanded_aggregate db who put) (qual_aggregates p) (qual_aggregates q) h) i)
+    (in_qual db who put made q (back made (expanded_aggregate db who put) (qual_aggregates p) (qual_aggregates q) h) i)
 in_qual db who put made (negated p) h = ap (λ p. negated p) (in_qual db who put made p h)
 
-in_targets : (db : Db) (who : Who) (put : Putting) (made : List QAgg) (targets : List Target)
-    → AreAt made (put_aggregate db who put) (flat_map (λ t. term_aggregates t.term) targets)
-    → map (replaced_target (listed made) put) targets ≡ map (replaced_target (put_made db who put) put) targets
+in_targets : (db : Db) (who : Who) (put : Substitution) (made : List QAgg) (targets : List Target)
+    → AreAt made (expanded_aggregate db who put) (flat_map (λ t. term_aggregates t.term) targets)
+    → map (replaced_target (listed made) put) targets ≡ map (replaced_target (expanded_made db who put) put) targets
 in_targets db who put made [] h = refl
 in_targets db who put made (t ∷ targets) h = λ i.
     record {
       name = t.name;
       kind = t.kind;
-      term = in_term db who put made t.term (front made (put_aggregate db who put) (term_aggregates t.term) (flat_map (λ t. term_aggregates t.term) targets) h) i;
+      term = in_term db who put made t.term (front made (expanded_aggregate db who put) (term_aggregates t.term) (flat_map (λ t. term_aggregates t.term) targets) h) i;
     }
-    ∷ in_targets db who put made targets (back made (put_aggregate db who put) (term_aggregates t.term) (flat_map (λ t. term_aggregates t.term) targets) h) i
+    ∷ in_targets db who put made targets (back made (expanded_aggregate db who put) (term_aggregates t.term) (flat_map (λ t. term_aggregates t.term) targets) h) i
 
 -- ---- a query
 
-pub slotted : (db : Db) (who : Who) (texts : List Text) (q : Query) → slots_count_up q ≡ true
-    → put_query (listed (map (put_aggregate db who (put_from 0 texts)) (query_aggregates q))) texts q ≡ put_over db who texts q
-slotted db who texts q h =
-    let put = put_from 0 texts in
-    let made = map (put_aggregate db who put) (query_aggregates q) in
+pub slotted : (db : Db) (who : Who) (expansions : List Expansion) (q : Query) → slots_count_up q ≡ true
+    → substituted_query (listed (map (expanded_aggregate db who (substituted_from 0 expansions)) (query_aggregates q))) expansions q ≡ expanded_over db who expansions q
+slotted db who expansions q h =
+    let put = substituted_from 0 expansions in
+    let made = map (expanded_aggregate db who put) (query_aggregates q) in
     let before : List QAgg = [] in
-    let at : AreAt made (put_aggregate db who put) (query_aggregates q) = counted (put_aggregate db who put) 0 before (query_aggregates q) refl h in
+    let at : AreAt made (expanded_aggregate db who put) (query_aggregates q) = counted (expanded_aggregate db who put) 0 before (query_aggregates q) refl h in
     let own = flat_map (λ t. term_aggregates t.term) (targets_of q) in
-    λ i. query (texts_vars texts) (in_targets db who put made (targets_of q) (front made (put_aggregate db who put) own (qual_aggregates (qual_of q)) at) i)
-    (all_of (in_qual db who put made (qual_of q) (back made (put_aggregate db who put) own (qual_aggregates (qual_of q)) at) i ∷ conditions_from 0 texts))
+    λ i. query (expansions_vars expansions) (in_targets db who put made (targets_of q) (front made (expanded_aggregate db who put) own (qual_aggregates (qual_of q)) at) i)
+    (all_of (in_qual db who put made (qual_of q) (back made (expanded_aggregate db who put) own (qual_aggregates (qual_of q)) at) i ∷ conditions_from 0 expansions))

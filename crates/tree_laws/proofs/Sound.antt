@@ -1,4 +1,4 @@
--- In a database the text of what stands under a key names only base relations and catalogues, names only its own variables, and each of them.
+-- In a database the expansion of what stands under a key names only base relations and catalogues, names only its own variables, and each of them.
 use Rattle.std.proofs.Common.{◌≡◌, refl, sym, ap, ◌∙◌, inl, inr, ℕ, suc, ◌+◌, Bool, true, ◌&&◌, List, [], ◌∷◌, map, length, Option, Some, None, arith}
 use Rattle.std.proofs.lemmas.Bool.Decides.{nat_tests}
 use Rattle.std.specs.Prelude.{nat_lt, filter, option_map}
@@ -8,10 +8,10 @@ use Rattle.calculus.specs.declared.query.QQual.{QQual}
 use Rattle.calculus.specs.Keys.{same_key}
 use Rattle.calculus.specs.Lists.{is_any}
 use Rattle.calculus.specs.Limits.{greatest_level}
-use Rattle.calculus.specs.Who.{Who, Free}
+use Rattle.calculus.specs.Who.{Who, Unrestricted}
 use Rattle.calculus.specs.Database.{Db, Relation, View, relation_at, view_at}
 use Rattle.calculus.specs.Catalogue.{catalogue_at}
-use Rattle.calculus.specs.IsDatabase.{IsDatabase, query_stands}
+use Rattle.calculus.specs.IsDatabase.{IsDatabase, valid_query}
 use Rattle.calculus.specs.Stored.{Range, Kept, Viewed, range_at, rows_at, kept_rows}
 use Rattle.calculus.specs.Rights.{Retrieve, may}
 use Rattle.calculus.specs.Rows.{Row}
@@ -21,16 +21,16 @@ use Rattle.calculus.specs.QueryParts.{query_aggregates, vars_of}
 use Rattle.calculus.specs.Used.{used_in_query}
 use Rattle.calculus_laws.specs.Expansion.{is_no_view}
 use Rattle.calculus_laws.proofs.SameRows.{all_at}
-use Rattle.calculus_laws.proofs.Through.{each_told, told_view, told_at, rows_told}
+use Rattle.calculus_laws.proofs.Through.{each_said, said_view, said_at, rows_said}
 use Rattle.calculus_laws.proofs.ViewAnswer.{stands_plain, found}
-use Rattle.view_text.specs.declared.text.Text.{Text}
+use Rattle.view_text.specs.declared.expansion.Expansion.{Expansion}
 use Rattle.view_text.specs.Scoped.{is_qual_within, is_scoped}
-use Rattle.view_text.specs.Texts.{TextSource, no_text, used_text, query_texts, texts_vars}
-use Rattle.view_text.specs.TextOf.{cut, kept_text, past_text, view_text, text_within, text_of}
+use Rattle.view_text.specs.Expansions.{ExpansionSource, no_expansion, used_expansion, query_expansions, expansions_vars}
+use Rattle.view_text.specs.ExpansionOf.{restriction, kept_expansion, past_expansion, view_text, expansion_within, expansion_of}
 use Rattle.tree_laws.proofs.Scopes.{both_true}
 use Rattle.tree_laws.proofs.Joint.{both_are, all_append}
-use Rattle.tree_laws.proofs.Told.{cut_within, texts_told}
-use Rattle.tree_laws.proofs.Within.{all_scoped, rows_text_scoped}
+use Rattle.tree_laws.proofs.Denoted.{restriction_within, expansions_said}
+use Rattle.tree_laws.proofs.Within.{all_scoped, rows_expansion_scoped}
 use Rattle.tree_laws.proofs.Placed.{NamesAll, placed_first, kept_names, rows_name}
 
 -- ---- views in a database
@@ -55,7 +55,7 @@ viewed db key view h = viewed_one (relation_at db key) (catalogue_at db key) (vi
 pub plain_view : (db : Db) → IsDatabase db → (key : RelKey) (view : View) → range_at db key ≡ Some (Viewed view) → query_aggregates view.query ≡ []
 plain_view db d key view h =
     stands_plain db view.query
-    (all_at (λ v. query_stands db v.query) db.views view (found (λ v. same_key v.info.key key) db.views view (viewed db key view h)).0 d.view_queries_stand)
+    (all_at (λ v. valid_query db v.query) db.views view (found (λ v. same_key v.info.key key) db.views view (viewed db key view h)).0 d.view_queries_stand)
 
 -- ---- sound texts
 
@@ -63,109 +63,109 @@ plain_view db d key view h =
 abbrev pub no_views : Db → List RelKey → Bool
 no_views db keys = list_all (λ key. is_no_view (range_at db key)) keys
 
-pub record IsSound (db : Db) (text : Text) : Type 0 where
-  pub scoped : is_scoped text ≡ true
-  pub names : NamesAll text
-  pub kept : no_views db text.vars ≡ true
+pub record IsSound (db : Db) (expansion : Expansion) : Type 0 where
+  pub scoped : is_scoped expansion ≡ true
+  pub names : NamesAll expansion
+  pub kept : no_views db expansion.vars ≡ true
 
--- the texts of all keys are sound
-abbrev pub AreSound : Db → TextSource → Type 0
-AreSound db texts = (key : RelKey) (attrs : List ℕ) → IsSound db (texts key attrs)
+-- the expansions of all keys are sound
+abbrev pub AreSound : Db → ExpansionSource → Type 0
+AreSound db expansions = (key : RelKey) (attrs : List ℕ) → IsSound db (expansions key attrs)
 
-pub kept_sound : (db : Db) (conditions : List QQual) (key : RelKey) → list_all (is_qual_within 1) conditions ≡ true → is_no_view (range_at db key) ≡ true → IsSound db (kept_text conditions key)
+pub kept_sound : (db : Db) (conditions : List QQual) (key : RelKey) → list_all (is_qual_within 1) conditions ≡ true → is_no_view (range_at db key) ≡ true → IsSound db (kept_expansion conditions key)
 kept_sound db conditions key within kept = record { scoped = within; names = kept_names conditions key; kept = both_are (is_no_view (range_at db key)) true kept refl }
 
-pub no_text_sound : (db : Db) → IsSound db no_text
-no_text_sound db = record { scoped = refl; names = λ v h. absurd (grind (arith, nat_tests, h)); kept = refl }
+pub no_expansion_sound : (db : Db) → IsSound db no_expansion
+no_expansion_sound db = record { scoped = refl; names = λ v h. absurd (grind (arith, nat_tests, h)); kept = refl }
 
-past_sound : (db : Db) → IsSound db past_text
+past_sound : (db : Db) → IsSound db past_expansion
 unfolding is_qual_within
 past_sound db = record { scoped = refl; names = λ v h. absurd (grind (arith, nat_tests, h)); kept = refl }
 
-pub used_sound : (db : Db) (texts : TextSource) → AreSound db texts → (key : RelKey) (attrs : List ℕ) → IsSound db (used_text texts key attrs)
-used_sound db texts sound key [] = no_text_sound db
-used_sound db texts sound key (a ∷ attrs) = sound key (a ∷ attrs)
+pub used_sound : (db : Db) (expansions : ExpansionSource) → AreSound db expansions → (key : RelKey) (attrs : List ℕ) → IsSound db (used_expansion expansions key attrs)
+used_sound db expansions sound key [] = no_expansion_sound db
+used_sound db expansions sound key (a ∷ attrs) = sound key (a ∷ attrs)
 
--- a text with variables is that of a variable that is used
-pub used_meant : (texts : TextSource) (key : RelKey) (attrs : List ℕ) (j : ℕ) → nat_lt j (length (used_text texts key attrs).vars) ≡ true → is_any attrs ≡ true
-used_meant texts key [] j h = absurd (grind (arith, nat_tests, h))
-used_meant texts key (a ∷ attrs) j h = refl
+-- an expansion with variables is that of a variable that is used
+pub used_meant : (expansions : ExpansionSource) (key : RelKey) (attrs : List ℕ) (j : ℕ) → nat_lt j (length (used_expansion expansions key attrs).vars) ≡ true → is_any attrs ≡ true
+used_meant expansions key [] j h = absurd (grind (arith, nat_tests, h))
+used_meant expansions key (a ∷ attrs) j h = refl
 
--- ---- texts of variables, each made for a variable by its place and key
+-- ---- expansions of variables, each made for a variable by its place and key
 
-module _ (db : Db) (text_at : ℕ → RelKey → Text) (sound : (v : ℕ) (key : RelKey) → IsSound db (text_at v key)) where
-  pub each_scoped_at : (k : ℕ) (keys : List RelKey) → all_scoped (map (λ p. text_at p.0 p.1) (enumerate_from k keys)) ≡ true
+module _ (db : Db) (expansion_at : ℕ → RelKey → Expansion) (sound : (v : ℕ) (key : RelKey) → IsSound db (expansion_at v key)) where
+  pub each_scoped_at : (k : ℕ) (keys : List RelKey) → all_scoped (map (λ p. expansion_at p.0 p.1) (enumerate_from k keys)) ≡ true
   each_scoped_at k [] = refl
   each_scoped_at k (key ∷ keys) = λ i. (sound k key).scoped i && each_scoped_at (k + 1) keys i
 
-  pub each_kept_at : (k : ℕ) (keys : List RelKey) → no_views db (texts_vars (map (λ p. text_at p.0 p.1) (enumerate_from k keys))) ≡ true
+  pub each_kept_at : (k : ℕ) (keys : List RelKey) → no_views db (expansions_vars (map (λ p. expansion_at p.0 p.1) (enumerate_from k keys))) ≡ true
   each_kept_at k [] = refl
   each_kept_at k (key ∷ keys) =
-      all_append (λ key. is_no_view (range_at db key)) (text_at k key).vars (texts_vars (map (λ p. text_at p.0 p.1) (enumerate_from (k + 1) keys)))
+      all_append (λ key. is_no_view (range_at db key)) (expansion_at k key).vars (expansions_vars (map (λ p. expansion_at p.0 p.1) (enumerate_from (k + 1) keys)))
       ∙ (λ i. (sound k key).kept i && each_kept_at (k + 1) keys i)
 
 -- ---- through levels of views
 
-view_sound : (db : Db) → IsDatabase db → (g : TextSource) → AreSound db g → (key : RelKey) (view : View) → range_at db key ≡ Some (Viewed view) → IsSound db (view_text g view)
+view_sound : (db : Db) → IsDatabase db → (g : ExpansionSource) → AreSound db g → (key : RelKey) (view : View) → range_at db key ≡ Some (Viewed view) → IsSound db (view_text g view)
 view_sound db d g sound key view h = record {
-  scoped = rows_text_scoped (query_texts g view.query) view.query (each_scoped_at db text_at at_sound 0 (vars_of view.query));
-  names = λ v inside. inl (rows_name (query_texts g view.query) view.query (plain_view db d key view h) v inside
-      (elim (placed_first text_at (λ v j. is_any (used_in_query v view.query) ≡ true) (λ v key. (at_sound v key).scoped) (λ v key. (at_sound v key).names)
+  scoped = rows_expansion_scoped (query_expansions g view.query) view.query (each_scoped_at db expansion_at at_sound 0 (vars_of view.query));
+  names = λ v inside. inl (rows_name (query_expansions g view.query) view.query (plain_view db d key view h) v inside
+      (elim (placed_first expansion_at (λ v j. is_any (used_in_query v view.query) ≡ true) (λ v key. (at_sound v key).scoped) (λ v key. (at_sound v key).names)
       (λ v key. used_meant g key (used_in_query v view.query)) (vars_of view.query) v inside) [
         | inl condition ↦ inl condition
         | inr (i, j, at, is_used, names) ↦ inr (i, is_used, names)
       ]));
-  kept = each_kept_at db text_at at_sound 0 (vars_of view.query);
+  kept = each_kept_at db expansion_at at_sound 0 (vars_of view.query);
 }
   where
-    text_at : ℕ → RelKey → Text
-    text_at v key = used_text g key (used_in_query v view.query)
+    expansion_at : ℕ → RelKey → Expansion
+    expansion_at v key = used_expansion g key (used_in_query v view.query)
 
-    at_sound : (v : ℕ) (key : RelKey) → IsSound db (used_text g key (used_in_query v view.query))
+    at_sound : (v : ℕ) (key : RelKey) → IsSound db (used_expansion g key (used_in_query v view.query))
     at_sound v key = used_sound db g sound key (used_in_query v view.query)
 
-pub within_sound : (n : ℕ) (db : Db) (who : Who) → IsDatabase db → AreSound db (text_within n db who)
+pub within_sound : (n : ℕ) (db : Db) (who : Who) → IsDatabase db → AreSound db (expansion_within n db who)
 within_sound n db who d key attrs =
-    each_told (texts_told db who) db (λ n key texts. (attrs : List ℕ) → IsSound db (texts attrs))
+    each_said (expansions_said db who) db (λ n key expansions. (attrs : List ℕ) → IsSound db (expansions attrs))
     (record {
-      nothing = λ n g key h attrs. kept_sound db (cut db who Retrieve attrs key) key (cut_within db who Retrieve attrs key) (ap is_no_view h);
-      kept = λ n g key relation h attrs. kept_sound db (cut db who Retrieve attrs key) key (cut_within db who Retrieve attrs key) (ap is_no_view h);
+      nothing = λ n g key h attrs. kept_sound db (restriction db who Retrieve attrs key) key (restriction_within db who Retrieve attrs key) (ap is_no_view h);
+      kept = λ n g key relation h attrs. kept_sound db (restriction db who Retrieve attrs key) key (restriction_within db who Retrieve attrs key) (ap is_no_view h);
       view_past = λ key view h attrs. past_sound db;
       view_above = λ n g below key view h attrs. view_sound db d g below key view h;
     })
     n key attrs
 
-pub all_sound : (db : Db) (who : Who) → IsDatabase db → AreSound db (text_of db who)
-unfolding text_of
+pub all_sound : (db : Db) (who : Who) → IsDatabase db → AreSound db (expansion_of db who)
+unfolding expansion_of
 all_sound db who d = within_sound greatest_level db who d
 
--- ---- what nobody in particular has of these
+-- ---- what whoever is unrestricted has of these
 
 all_pass : {X : Type 0} (p : X → Bool) (xs : List X) → ((x : X) → p x ≡ true) → filter p xs ≡ xs
 all_pass p [] h = refl
 all_pass p (x ∷ xs) h = rw (h x) (ap (λ ys. x ∷ ys) (all_pass p xs h))
 
-may_free : (db : Db) (attrs : List ℕ) (key : RelKey) (row : Row) → may db Free Retrieve attrs key row ≡ true
+may_unrestricted : (db : Db) (attrs : List ℕ) (key : RelKey) (row : Row) → may db Unrestricted Retrieve attrs key row ≡ true
 unfolding may
-may_free db attrs key row = refl
+may_unrestricted db attrs key row = refl
 
-free_range : (db : Db) (of_view : View → List Row) (key : RelKey) (attrs : List ℕ) (r : Option Range) → is_no_view r ≡ true → range_rows of_view db Free key attrs r ≡ kept_rows r
-free_range db of_view key attrs None h = refl
-free_range db of_view key attrs (Some (Kept relation)) h = all_pass (may db Free Retrieve attrs key) relation.rows (may_free db attrs key)
-free_range db of_view key attrs (Some (Viewed view)) h = cc h
+unrestricted_range : (db : Db) (of_view : View → List Row) (key : RelKey) (attrs : List ℕ) (r : Option Range) → is_no_view r ≡ true → range_rows of_view db Unrestricted key attrs r ≡ kept_rows r
+unrestricted_range db of_view key attrs None h = refl
+unrestricted_range db of_view key attrs (Some (Kept relation)) h = all_pass (may db Unrestricted Retrieve attrs key) relation.rows (may_unrestricted db attrs key)
+unrestricted_range db of_view key attrs (Some (Viewed view)) h = cc h
 
-free_within : (n : ℕ) (db : Db) (key : RelKey) (attrs : List ℕ) → is_no_view (range_at db key) ≡ true → rows_within n db Free key attrs ≡ rows_at db key
-free_within n db key attrs h =
-    ap (λ rows. rows attrs) (told_at (rows_told db Free) n db key (range_at db key) refl)
-    ∙ free_range db (λ view. told_view (rows_told db Free) n db view attrs) key attrs (range_at db key) h
+unrestricted_within : (n : ℕ) (db : Db) (key : RelKey) (attrs : List ℕ) → is_no_view (range_at db key) ≡ true → rows_within n db Unrestricted key attrs ≡ rows_at db key
+unrestricted_within n db key attrs h =
+    ap (λ rows. rows attrs) (said_at (rows_said db Unrestricted) n db key (range_at db key) refl)
+    ∙ unrestricted_range db (λ view. said_view (rows_said db Unrestricted) n db view attrs) key attrs (range_at db key) h
 
-pub free_rows : (db : Db) (key : RelKey) (attrs : List ℕ) → is_no_view (range_at db key) ≡ true → rows_of db Free key attrs ≡ rows_at db key
+pub unrestricted_rows : (db : Db) (key : RelKey) (attrs : List ℕ) → is_no_view (range_at db key) ≡ true → rows_of db Unrestricted key attrs ≡ rows_at db key
 unfolding rows_of
-free_rows db key attrs h = free_within greatest_level db key attrs h
+unrestricted_rows db key attrs h = unrestricted_within greatest_level db key attrs h
 
-pub free_used : (db : Db) (key : RelKey) (attrs : List ℕ) → is_no_view (range_at db key) ≡ true → is_any attrs ≡ true → rows_used (rows_of db Free) key attrs ≡ rows_at db key
-free_used db key [] h any = cc any
-free_used db key (a ∷ attrs) h any = free_rows db key (a ∷ attrs) h
+pub unrestricted_used : (db : Db) (key : RelKey) (attrs : List ℕ) → is_no_view (range_at db key) ≡ true → is_any attrs ≡ true → rows_used (rows_of db Unrestricted) key attrs ≡ rows_at db key
+unrestricted_used db key [] h any = cc any
+unrestricted_used db key (a ∷ attrs) h any = unrestricted_rows db key (a ∷ attrs) h
 
 -- variables that have all rows that are kept
 pub all_kept : (db : Db) (rows : ℕ → RelKey → List Row) (k : ℕ) (keys : List RelKey)

@@ -21,19 +21,19 @@ use Rattle.calculus.specs.Sizes.{Measure, Known, attr_size, term_size, qual_size
 use Rattle.calculus.specs.TreeLevels.{term_levels, qual_levels}
 use Rattle.calculus_laws.proofs.Members.{In}
 use Rattle.calculus_laws.proofs.SameRows.{all_at}
-use Rattle.calculus_laws.proofs.Through.{told_at, each_told}
+use Rattle.calculus_laws.proofs.Through.{said_at, each_said}
 use Rattle.calculus_laws.proofs.ViewAnswer.{found}
-use Rattle.view_text.specs.declared.text.Text.{Text}
+use Rattle.view_text.specs.declared.expansion.Expansion.{Expansion}
 use Rattle.view_text.specs.Replaced.{replaced, replaced_in_qual, no_aggregate}
-use Rattle.view_text.specs.Texts.{TextSource, term_at, attr_term, used_text, query_texts, texts_vars, put_from, conditions_from}
-use Rattle.view_text.specs.TextOf.{cut, kept_text, past_text, has_value, put_terms, rows_conditions, view_text, text_within, text_of}
+use Rattle.view_text.specs.Expansions.{ExpansionSource, term_at, attr_term, used_expansion, query_expansions, expansions_vars, substituted_from, conditions_from}
+use Rattle.view_text.specs.ExpansionOf.{restriction, kept_expansion, past_expansion, has_value, substituted_terms, rows_conditions, view_text, expansion_within, expansion_of}
 use Rattle.tree_laws.proofs.Sound.{viewed}
-use Rattle.tree_laws.proofs.Told.{texts_told}
-use Rattle.tree_laws.proofs.FitWithin.{measure_told}
+use Rattle.tree_laws.proofs.Denoted.{expansions_said}
+use Rattle.tree_laws.proofs.FitWithin.{measure_said}
 use Rattle.tree_laws.proofs.Joined.{Low, low_append}
-use Rattle.tree_laws.proofs.Replaced.{none_sized, some_size, moved_low, term_sized, qual_sized}
-use Rattle.tree_laws.proofs.Permits.{le_is, cut_low}
-use Rattle.tree_laws.proofs.Counted.{many, many_more, room, room_some, room_more, conditions_low, used_few, all_texts, settled_low, settled_few}
+use Rattle.tree_laws.proofs.Replaced.{none_sized, some_size, shifted_low, term_sized, qual_sized}
+use Rattle.tree_laws.proofs.Permits.{le_is, restriction_low}
+use Rattle.tree_laws.proofs.Counted.{times, times_more, room, room_some, room_more, conditions_low, used_few, all_expansions, settled_low, settled_few}
 
 -- the size of an attribute of what is so measured
 abbrev pub own_size : Measure → ℕ → ℕ
@@ -63,7 +63,7 @@ known_some known some (key ∷ keys) (suc v) a = known_some known some keys v a
 
 pub some_own : (n : ℕ) (db : Db) (key : RelKey) (a : ℕ) → 1 ≤ own_size (measure_within n db key) a
 some_own n db key =
-    each_told measure_told db (λ n key m. (a : ℕ) → 1 ≤ own_size m a)
+    each_said measure_said db (λ n key m. (a : ℕ) → 1 ≤ own_size m a)
     (record {
       nothing = λ n f key e a. plain_some a;
       kept = λ n f key relation e a. plain_some a;
@@ -90,33 +90,33 @@ long_sum g some (t ∷ ts) =
     let sums = sum_by-cons (λ (x : ℕ). x) (g t) (map g ts) in
     let one = some t in let more = long_sum g some ts in omega (arith, sums, one, more)
 
--- ---- what is put in of texts whose terms are sized
+-- ---- what is put in of expansions whose terms are sized
 
-module _ (known : Known) (texts : TextSource) (sized : (key : RelKey) (attrs : List ℕ) (a : ℕ) → term_levels (attr_term (texts key attrs) a) ≤ suc (own_size (known key) a))
+module _ (known : Known) (expansions : ExpansionSource) (sized : (key : RelKey) (attrs : List ℕ) (a : ℕ) → term_levels (attr_term (expansions key attrs) a) ≤ suc (own_size (known key) a))
     (some : (key : RelKey) (a : ℕ) → 1 ≤ own_size (known key) a) (q : Query) where
-  used_sized : (key : RelKey) (attrs : List ℕ) (a : ℕ) → term_levels (attr_term (used_text texts key attrs) a) ≤ suc (own_size (known key) a)
+  used_sized : (key : RelKey) (attrs : List ℕ) (a : ℕ) → term_levels (attr_term (used_expansion expansions key attrs) a) ≤ suc (own_size (known key) a)
   used_sized key [] a = let one = some key a in omega (arith, one)
   used_sized key (b ∷ attrs) a = sized key (b ∷ attrs) a
 
-  put_sized : (k n : ℕ) (keys : List RelKey) (v a : ℕ) → term_levels (put_from n (map (λ p. used_text texts p.1 (used_in_query p.0 q)) (enumerate_from k keys)) v a) ≤ suc (attr_size (map known keys) v a)
+  put_sized : (k n : ℕ) (keys : List RelKey) (v a : ℕ) → term_levels (substituted_from n (map (λ p. used_expansion expansions p.1 (used_in_query p.0 q)) (enumerate_from k keys)) v a) ≤ suc (attr_size (map known keys) v a)
   put_sized k n [] v a = let size = none_sized v a in omega (arith, size)
   put_sized k n (key ∷ keys) zero a =
       let own = used_sized key (used_in_query k q) a in
-      let less = moved_low n (attr_term (used_text texts key (used_in_query k q)) a) in
+      let less = shifted_low n (attr_term (used_expansion expansions key (used_in_query k q)) a) in
       omega (arith, own, less)
-  put_sized k n (key ∷ keys) (suc v) a = put_sized (k + 1) (n + length (used_text texts key (used_in_query k q)).vars) keys v a
+  put_sized k n (key ∷ keys) (suc v) a = put_sized (k + 1) (n + length (used_expansion expansions key (used_in_query k q)).vars) keys v a
 
-  puts : (v a : ℕ) → term_levels (put_from 0 (query_texts texts q) v a) ≤ suc (attr_size (measures known q) v a)
+  puts : (v a : ℕ) → term_levels (substituted_from 0 (query_expansions expansions q) v a) ≤ suc (attr_size (measures known q) v a)
   puts v a = put_sized 0 0 (vars_of q) v a
 
-  pub targets_sized : (t : Target) → term_levels (replaced no_aggregate (put_from 0 (query_texts texts q)) t.term) ≤ suc (term_size (measures known q) t.term)
-  targets_sized t = term_sized (put_from 0 (query_texts texts q)) (measures known q) puts t.term
+  pub targets_sized : (t : Target) → term_levels (replaced no_aggregate (substituted_from 0 (query_expansions expansions q)) t.term) ≤ suc (term_size (measures known q) t.term)
+  targets_sized t = term_sized (substituted_from 0 (query_expansions expansions q)) (measures known q) puts t.term
 
-  pub qualification_sized : qual_levels (replaced_in_qual no_aggregate (put_from 0 (query_texts texts q)) (qual_of q)) ≤ suc (qual_size (measures known q) (qual_of q))
-  qualification_sized = qual_sized (put_from 0 (query_texts texts q)) (measures known q) puts (qual_of q)
+  pub qualification_sized : qual_levels (replaced_in_qual no_aggregate (substituted_from 0 (query_expansions expansions q)) (qual_of q)) ≤ suc (qual_size (measures known q) (qual_of q))
+  qualification_sized = qual_sized (substituted_from 0 (query_expansions expansions q)) (measures known q) puts (qual_of q)
 
   pub terms_sized : (ts : List Target) (a : ℕ)
-      → term_levels (term_at (map (λ t. replaced no_aggregate (put_from 0 (query_texts texts q)) t.term) ts) a) ≤ suc (unwrap_or (slice_get (map (λ t. term_size (measures known q) t.term) ts) a) 1)
+      → term_levels (term_at (map (λ t. replaced no_aggregate (substituted_from 0 (query_expansions expansions q)) t.term) ts) a) ≤ suc (unwrap_or (slice_get (map (λ t. term_size (measures known q) t.term) ts) a) 1)
   terms_sized [] a = let own = none_own a in omega (arith, own)
   terms_sized (t ∷ ts) zero = targets_sized t
   terms_sized (t ∷ ts) (suc a) = terms_sized ts a
@@ -157,11 +157,11 @@ module _ (db : Db) (d : IsDatabase db) where
     where
       by : (r : Option Range) → range_at db key ≡ r → own_size (measure_within 17 db key) a ≤ 1000
       by None e =
-          let own = none_own a in let same = ap (λ m. own_size m a) (told_at measure_told 17 db key None e) in omega (arith, own, same)
+          let own = none_own a in let same = ap (λ m. own_size m a) (said_at measure_said 17 db key None e) in omega (arith, own, same)
       by (Some (Kept relation)) e =
-          let own = none_own a in let same = ap (λ m. own_size m a) (told_at measure_told 17 db key (Some (Kept relation)) e) in omega (arith, own, same)
+          let own = none_own a in let same = ap (λ m. own_size m a) (said_at measure_said 17 db key (Some (Kept relation)) e) in omega (arith, own, same)
       by (Some (Viewed view)) e =
-          let same = ap (λ m. own_size m a) (told_at measure_told 17 db key (Some (Viewed view)) e) in
+          let same = ap (λ m. own_size m a) (said_at measure_said 17 db key (Some (Viewed view)) e) in
           let one : 1 ≤ 1000 = omega arith in
           let few = sizes_few (λ t. term_size (measures (measure_within 16 db) view.query) t.term) 1000 one (targets_of view.query) (view_targets view (view_in key view e)) a in
           subst (λ n. n ≤ 1000) (sym same) few
@@ -170,18 +170,18 @@ module _ (db : Db) (d : IsDatabase db) where
 
   module _ (who : Who) where
     -- the terms are as deep as they are large, through these levels or more; the conditions are no deeper than a size is great, and not too many
-    pub record IsLow (n : ℕ) (key : RelKey) (text : Text) : Type 0 where
-      pub terms : (m : ℕ) → n ≤ m → (a : ℕ) → term_levels (attr_term text a) ≤ suc (own_size (measure_within m db key) a)
-      pub conditions : n ≤ 17 → Low 1008 text.conditions
-      pub few : length text.conditions ≤ room n
+    pub record IsLow (n : ℕ) (key : RelKey) (expansion : Expansion) : Type 0 where
+      pub terms : (m : ℕ) → n ≤ m → (a : ℕ) → term_levels (attr_term expansion a) ≤ suc (own_size (measure_within m db key) a)
+      pub conditions : n ≤ 17 → Low 1008 expansion.conditions
+      pub few : length expansion.conditions ≤ room n
 
-    kept_low : (n : ℕ) (key : RelKey) (attrs : List ℕ) → IsLow n key (kept_text (cut db who Retrieve attrs key) key)
+    kept_low : (n : ℕ) (key : RelKey) (attrs : List ℕ) → IsLow n key (kept_expansion (restriction db who Retrieve attrs key) key)
     kept_low n key attrs =
-        let low = cut_low db d who Retrieve attrs key in
+        let low = restriction_low db d who Retrieve attrs key in
         let some = room_some n in let short = low.1 in
         record { terms = λ m h a. omega arith; conditions = λ h. low.0; few = omega (arith, some, short) }
 
-    past_low : (key : RelKey) → IsLow 0 key past_text
+    past_low : (key : RelKey) → IsLow 0 key past_expansion
     past_low key = record {
       terms = λ m h a. let one = some_own m db key a in omega (arith, one);
       conditions = λ h. (omega arith, tt);
@@ -196,81 +196,81 @@ module _ (db : Db) (d : IsDatabase db) where
     values_long g [] more = omega arith
     values_long g (t ∷ ts) more = let long = values_long g ts more in omega (arith, long)
 
-    module _ (n : ℕ) (texts : TextSource) (below : (key : RelKey) (attrs : List ℕ) → IsLow n key (texts key attrs)) (view : View) (inside : In view db.views) where
-      sized_at : (m : ℕ) → n ≤ m → (key : RelKey) (attrs : List ℕ) (a : ℕ) → term_levels (attr_term (texts key attrs) a) ≤ suc (own_size (measure_within m db key) a)
+    module _ (n : ℕ) (expansions : ExpansionSource) (below : (key : RelKey) (attrs : List ℕ) → IsLow n key (expansions key attrs)) (view : View) (inside : In view db.views) where
+      sized_at : (m : ℕ) → n ≤ m → (key : RelKey) (attrs : List ℕ) (a : ℕ) → term_levels (attr_term (expansions key attrs) a) ≤ suc (own_size (measure_within m db key) a)
       sized_at m h key attrs a = (below key attrs).terms m h a
 
       each_term : (ts : List Target) → n ≤ 16 → AllByRecursion (λ t. term_size (measures (measure_within 16 db) view.query) t.term ≤ 1000) ts
-          → AllByRecursion (λ t. term_levels (replaced no_aggregate (put_from 0 (query_texts texts view.query)) t.term) ≤ 1001) ts
+          → AllByRecursion (λ t. term_levels (replaced no_aggregate (substituted_from 0 (query_expansions expansions view.query)) t.term) ≤ 1001) ts
       each_term [] h few = tt
       each_term (t ∷ ts) h few =
           let own = few.0 in
-          let low = targets_sized (measure_within 16 db) texts (sized_at 16 h) (some_own 16 db) view.query t in
+          let low = targets_sized (measure_within 16 db) expansions (sized_at 16 h) (some_own 16 db) view.query t in
           (omega (arith, own, low), each_term ts h few.1)
 
       -- the terms of the view's targets, once texts are put in
-      pub view_terms_low : n ≤ 16 → AllByRecursion (λ t. term_levels (replaced no_aggregate (put_from 0 (query_texts texts view.query)) t.term) ≤ 1001) (targets_of view.query)
+      pub view_terms_low : n ≤ 16 → AllByRecursion (λ t. term_levels (replaced no_aggregate (substituted_from 0 (query_expansions expansions view.query)) t.term) ≤ 1001) (targets_of view.query)
       view_terms_low h = each_term (targets_of view.query) h (view_targets view inside)
 
-      pub view_qual_low : n ≤ 16 → qual_levels (replaced_in_qual no_aggregate (put_from 0 (query_texts texts view.query)) (qual_of view.query)) ≤ 1001
+      pub view_qual_low : n ≤ 16 → qual_levels (replaced_in_qual no_aggregate (substituted_from 0 (query_expansions expansions view.query)) (qual_of view.query)) ≤ 1001
       view_qual_low h =
           let size = view_qual view inside in
-          let low = qualification_sized (measure_within 16 db) texts (sized_at 16 h) (some_own 16 db) view.query in
+          let low = qualification_sized (measure_within 16 db) expansions (sized_at 16 h) (some_own 16 db) view.query in
           omega (arith, size, low)
 
-      used_low : n ≤ 17 → (key : RelKey) (attrs : List ℕ) → Low 1008 (used_text texts key attrs).conditions
+      used_low : n ≤ 17 → (key : RelKey) (attrs : List ℕ) → Low 1008 (used_expansion expansions key attrs).conditions
       used_low h key [] = tt
       used_low h key (a ∷ attrs) = (below key (a ∷ attrs)).conditions h
 
-      pub view_conditions_low : n ≤ 17 → Low 1008 (conditions_from 0 (query_texts texts view.query))
+      pub view_conditions_low : n ≤ 17 → Low 1008 (conditions_from 0 (query_expansions expansions view.query))
       view_conditions_low h =
-          conditions_low 1008 (query_texts texts view.query) (all_texts (λ t. Low 1008 t.conditions) texts (used_low h) view.query 0 (vars_of view.query)) 0
+          conditions_low 1008 (query_expansions expansions view.query) (all_expansions (λ t. Low 1008 t.conditions) expansions (used_low h) view.query 0 (vars_of view.query)) 0
 
-      pub view_conditions_few : length (conditions_from 0 (query_texts texts view.query)) ≤ many 10 (room n)
+      pub view_conditions_few : length (conditions_from 0 (query_expansions expansions view.query)) ≤ times 10 (room n)
       view_conditions_few =
-          let used = used_few (room n) texts (λ key attrs. (below key attrs).few) view.query 0 0 (vars_of view.query) in
-          let ten = many_more (length (used_vars view.query)) 10 (room n) (view_uses view inside) in
+          let used = used_few (room n) expansions (λ key attrs. (below key attrs).few) view.query 0 0 (vars_of view.query) in
+          let ten = times_more (length (used_vars view.query)) 10 (room n) (view_uses view inside) in
           omega (arith, used, ten)
 
-      rows_low : suc n ≤ 17 → Low 1008 (rows_conditions (query_texts texts view.query) view.query)
+      rows_low : suc n ≤ 17 → Low 1008 (rows_conditions (query_expansions expansions view.query) view.query)
       rows_low h =
           let less : n ≤ 16 = omega (arith, h) in
           let more : n ≤ 17 = omega (arith, h) in
           let own = view_qual_low less in (
             omega (arith, own),
-            low_append 1008 (map has_value (put_terms (query_texts texts view.query) view.query)) (conditions_from 0 (query_texts texts view.query))
-                (values_low (replaced no_aggregate (put_from 0 (query_texts texts view.query))) (targets_of view.query) (view_terms_low less))
+            low_append 1008 (map has_value (substituted_terms (query_expansions expansions view.query) view.query)) (conditions_from 0 (query_expansions expansions view.query))
+                (values_low (replaced no_aggregate (substituted_from 0 (query_expansions expansions view.query))) (targets_of view.query) (view_terms_low less))
                 (view_conditions_low more),
           )
 
-      rows_few : length (rows_conditions (query_texts texts view.query) view.query) ≤ room (suc n)
+      rows_few : length (rows_conditions (query_expansions expansions view.query) view.query) ≤ room (suc n)
       rows_few =
-          let long = values_long (replaced no_aggregate (put_from 0 (query_texts texts view.query))) (targets_of view.query) (conditions_from 0 (query_texts texts view.query)) in
+          let long = values_long (replaced no_aggregate (substituted_from 0 (query_expansions expansions view.query))) (targets_of view.query) (conditions_from 0 (query_expansions expansions view.query)) in
           let targets = view_long view inside in
           let below = view_conditions_few in
           let more = room_more n in
           omega (arith, long, targets, below, more)
 
-      pub view_is_low : (key : RelKey) → range_at db key ≡ Some (Viewed view) → IsLow (suc n) key (view_text texts view)
+      pub view_is_low : (key : RelKey) → range_at db key ≡ Some (Viewed view) → IsLow (suc n) key (view_text expansions view)
       view_is_low key e = record {
         terms = λ m h a. terms_at m h a;
-        conditions = λ h. let two : 2 ≤ 1008 = omega arith in settled_low 1008 (texts_vars (query_texts texts view.query)) (rows_conditions (query_texts texts view.query) view.query) two (rows_low h);
+        conditions = λ h. let two : 2 ≤ 1008 = omega arith in settled_low 1008 (expansions_vars (query_expansions expansions view.query)) (rows_conditions (query_expansions expansions view.query) view.query) two (rows_low h);
         few =
             let some = room_some (suc n) in
             let one : 1 ≤ room (suc n) = omega (arith, some) in
-            settled_few (room (suc n)) (texts_vars (query_texts texts view.query)) (rows_conditions (query_texts texts view.query) view.query) one rows_few;
+            settled_few (room (suc n)) (expansions_vars (query_expansions expansions view.query)) (rows_conditions (query_expansions expansions view.query) view.query) one rows_few;
       }
         where
-          terms_at : (m : ℕ) → suc n ≤ m → (a : ℕ) → term_levels (attr_term (view_text texts view) a) ≤ suc (own_size (measure_within m db key) a)
+          terms_at : (m : ℕ) → suc n ≤ m → (a : ℕ) → term_levels (attr_term (view_text expansions view) a) ≤ suc (own_size (measure_within m db key) a)
           terms_at zero h a = absurd (omega (arith, h))
           terms_at (suc m) h a =
               let less : n ≤ m = omega (arith, h) in
-              subst (λ s. term_levels (attr_term (view_text texts view) a) ≤ suc (own_size s a)) (sym (told_at measure_told (suc m) db key (Some (Viewed view)) e))
-              (terms_sized (measure_within m db) texts (sized_at m less) (some_own m db) view.query (targets_of view.query) a)
+              subst (λ s. term_levels (attr_term (view_text expansions view) a) ≤ suc (own_size s a)) (sym (said_at measure_said (suc m) db key (Some (Viewed view)) e))
+              (terms_sized (measure_within m db) expansions (sized_at m less) (some_own m db) view.query (targets_of view.query) a)
 
-    pub all_low : (n : ℕ) (key : RelKey) (attrs : List ℕ) → IsLow n key (text_within n db who key attrs)
+    pub all_low : (n : ℕ) (key : RelKey) (attrs : List ℕ) → IsLow n key (expansion_within n db who key attrs)
     all_low n key =
-        each_told (texts_told db who) db (λ n key text. (attrs : List ℕ) → IsLow n key (text attrs))
+        each_said (expansions_said db who) db (λ n key expansion. (attrs : List ℕ) → IsLow n key (expansion attrs))
         (record {
           nothing = λ n f key e attrs. kept_low n key attrs;
           kept = λ n f key relation e attrs. kept_low n key attrs;
@@ -281,16 +281,16 @@ module _ (db : Db) (d : IsDatabase db) where
 
     -- ---- what stands under a key
 
-    pub term_low : (key : RelKey) (attrs : List ℕ) (a : ℕ) → term_levels (attr_term (text_of db who key attrs) a) ≤ 1001
-    unfolding text_of
+    pub term_low : (key : RelKey) (attrs : List ℕ) (a : ℕ) → term_levels (attr_term (expansion_of db who key attrs) a) ≤ 1001
+    unfolding expansion_of
     term_low key attrs a =
         let more : 16 ≤ 17 = omega arith in
         let deep = (all_low 16 key attrs).terms 17 more a in let size = greatest_own key a in omega (arith, deep, size)
 
-    pub text_low : (key : RelKey) (attrs : List ℕ) → Low 1008 (text_of db who key attrs).conditions
-    unfolding text_of
-    text_low key attrs = let more : 16 ≤ 17 = omega arith in (all_low 16 key attrs).conditions more
+    pub expansion_low : (key : RelKey) (attrs : List ℕ) → Low 1008 (expansion_of db who key attrs).conditions
+    unfolding expansion_of
+    expansion_low key attrs = let more : 16 ≤ 17 = omega arith in (all_low 16 key attrs).conditions more
 
-    pub text_few : (key : RelKey) (attrs : List ℕ) → length (text_of db who key attrs).conditions ≤ room 16
-    unfolding text_of
-    text_few key attrs = (all_low 16 key attrs).few
+    pub expansion_few : (key : RelKey) (attrs : List ℕ) → length (expansion_of db who key attrs).conditions ≤ room 16
+    unfolding expansion_of
+    expansion_few key attrs = (all_low 16 key attrs).few

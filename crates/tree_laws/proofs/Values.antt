@@ -10,7 +10,7 @@ use Rattle.calculus.specs.QueryParts.{term_aggregates, qual_aggregates}
 use Rattle.calculus.specs.Targets.{target_values}
 use Rattle.calculus_laws.proofs.Members.{Within, In-append_left, In-append_right}
 use Rattle.calculus_laws.proofs.Plain.{in_targets}
-use Rattle.view_text.specs.Replaced.{Putting, without_value, replaced, replaced_in_qual, replaced_target, no_aggregate}
+use Rattle.view_text.specs.Replaced.{Substitution, without_value, replaced, replaced_in_qual, replaced_target, no_aggregate}
 
 pub without_value_has_none : (aggs : Aggs) (e : Env) → val aggs without_value e ≡ None
 unfolding val operated_values
@@ -28,7 +28,7 @@ is_aggregate (operation op t u) = false
 is_aggregate (concat t u) = false
 
 -- what is put in for attributes has their values, whatever aggregates give
-abbrev pub StandsFor : Putting → Env → Env → Type 0
+abbrev pub StandsFor : Substitution → Env → Env → Type 0
 StandsFor put f e = (aggs : Aggs) (v a : ℕ) → val aggs (put v a) f ≡ attribute_value e v a
 
 -- what is made of these aggregates has their values
@@ -42,7 +42,7 @@ within_left xs ys gs w a h = w a (In-append_left xs ys a h)
 pub within_right : (xs ys gs : List QAgg) → Within (xs ++ ys) gs → Within ys gs
 within_right xs ys gs w a h = w a (In-append_right xs ys a h)
 
-module _ (aggs bggs : Aggs) (made : QTerm → QTerm) (put : Putting) (e f : Env) (gs : List QAgg) (stands : StandsFor put f e) (makes : MakesAll aggs bggs made f e gs) where
+module _ (aggs bggs : Aggs) (made : QTerm → QTerm) (put : Substitution) (e f : Env) (gs : List QAgg) (stands : StandsFor put f e) (makes : MakesAll aggs bggs made f e gs) where
   pub val_replaced : (t : QTerm) → Within (term_aggregates t) gs → val bggs (replaced made put t) f ≡ val aggs t e
   unfolding val replaced term_aggregates
   val_replaced (Int n) w = refl

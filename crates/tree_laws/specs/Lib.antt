@@ -1,4 +1,4 @@
-pub mod FitTexts
+pub mod FitExpansions
 pub mod Nesting
-pub mod Telling
+pub mod Denoting
 pub mod Levels

@@ -3,17 +3,17 @@
 #![tactic(auto)]
 
 mod answers;
+mod expansions;
 mod fitness;
 mod levels;
 mod meaning;
 mod slots;
-mod texts;
 mod updates;
 
 pub use answers::what_is_put_in_answers_the_same;
-pub use fitness::{texts_of_what_is_there_fit, what_is_put_in_is_fit};
+pub use expansions::{an_expansion_denotes_its_rows, expansions_name_what_is_kept};
+pub use fitness::{expansions_of_what_is_there_fit, what_is_put_in_is_fit};
 pub use levels::what_is_put_in_has_few_levels;
 pub use meaning::what_is_put_in_means_the_same;
 pub use slots::aggregates_stand_at_their_slots;
-pub use texts::{a_text_tells_of_the_rows, texts_name_what_is_kept};
 pub use updates::{rules_join_what_is_put_in, what_is_put_in_changes_the_same};

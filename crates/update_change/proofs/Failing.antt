@@ -1,4 +1,4 @@
--- A fault of pairs is one that may come, whatever database is told.
+-- A fault of pairs is one that may come, whatever database is known.
 use Rattle.std.proofs.Common.{◌≡◌, ℕ, List, [], Option}
 use Rattle.calculus.specs.declared.change.Pair.{Pair}
 use Rattle.calculus.specs.declared.request.Update.{Update}
@@ -9,9 +9,9 @@ use Rattle.update_change.specs.declared.fault.UpdateFault.{UpdateFault}
 use Rattle.update_change.specs.declared.fault.UpdateFault.TheVariants.{Contended, TooMany, Base, OutOfMemory}
 use Rattle.update_change.specs.Causes.{IsCause, MayFail}
 
-pub may_fail : (u : Update) (ps : List Pair) (told : Option Db) (before now : ℕ) (fault : UpdateFault)
-    → now ≡ before → ((rows : List Row) → IsCause rows ps fault) → MayFail u ps told before now fault
-may_fail u ps told before now (Contended old first second) stayed cause = (stayed, (cause []).0, (cause []).1)
-may_fail u ps told before now (TooMany count) stayed cause = (stayed, (cause []).0, λ db e new. ((cause (rows_at db u.rel)).1, (cause (rows_at db u.rel)).2))
-may_fail u ps told before now (Base fault) stayed cause = absurd (cause [])
-may_fail u ps told before now OutOfMemory stayed cause = stayed
+pub may_fail : (u : Update) (ps : List Pair) (known : Option Db) (before now : ℕ) (fault : UpdateFault)
+    → now ≡ before → ((rows : List Row) → IsCause rows ps fault) → MayFail u ps known before now fault
+may_fail u ps known before now (Contended old first second) stayed cause = (stayed, (cause []).0, (cause []).1)
+may_fail u ps known before now (TooMany count) stayed cause = (stayed, (cause []).0, λ db e new. ((cause (rows_at db u.rel)).1, (cause (rows_at db u.rel)).2))
+may_fail u ps known before now (Base fault) stayed cause = absurd (cause [])
+may_fail u ps known before now OutOfMemory stayed cause = stayed

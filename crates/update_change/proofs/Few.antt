@@ -8,7 +8,7 @@ use Rattle.calculus.specs.Value.{row_cmp}
 use Rattle.calculus.specs.Rows.{Row, Ascends, has, set_of, put}
 use Rattle.calculus.specs.Replacement.{old_rows, new_rows, with_rows, without_rows, after}
 use Rattle.calculus.proofs.Sets.{Ascends-set_of}
-use Rattle.am_traits.specs.Scans.{IsScan}
+use Rattle.base_trait.specs.Scans.{IsScan}
 use Rattle.update_change.proofs.Joined.{set_of-kept}
 use Rattle.update_change.proofs.MovedRows.{go_is, come_is, left_is}
 

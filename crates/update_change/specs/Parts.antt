@@ -1,7 +1,7 @@
 -- The rows of pairs, moved out of them.
 use Rattle.std.specs.Prelude.{◌≡◌, List, filter_map}
 use Rattle.calculus.specs.declared.change.Pair.{Pair}
-use Rattle.update_change.specs.declared.parts.Parts.{Parts}
+use Rattle.update_change.specs.declared.pair_rows.Parts.{Parts}
 use Rattle.update_change.specs.Replacements.{replacements, old_alone, new_alone}
 
 -- these are the rows of the pairs: the replacements, and the rows of the other pairs

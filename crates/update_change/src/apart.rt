@@ -9,7 +9,7 @@ ghost use Rattle.calculus.specs.declared.change.Pair.{Pair};
 
 use crate::ChangeFault;
 use crate::contention::refuse_contended;
-use crate::parts::{Parts, parts_of, put_rows};
+use crate::pair_rows::{Parts, parts_of, put_rows};
 use crate::replacements::in_order;
 use calculus::{OutOfMemory, Pair, Row, RowSet};
 use std::alloc::Global;

@@ -11,9 +11,9 @@ ghost use Rattle.update_change.specs.Causes.{HasCause};
 ghost use Rattle.update_change.specs.Changes.{is_into, change_by, MakesNew};
 
 use crate::UpdateFault;
-use crate::made::relation_made;
 use crate::moved::rows_moved;
-use am_traits::Base;
+use crate::new_relation::relation_made;
+use base_trait::Base;
 use calculus::{DbChange, List, OutOfMemory, Pair, TryCopy, Update, UpdateOp};
 use std::alloc::Global;
 

@@ -3,7 +3,7 @@
 ghost use Rattle.std.specs.Prelude.{◌≡◌};
 ghost use Rattle.update_change.specs.declared.fault.UpdateFault.TheVariants.{Base as OfBase, OutOfMemory as NoMemory};
 
-use am_traits::BaseFault;
+use base_trait::BaseFault;
 use calculus::{OutOfMemory, Row};
 
 /// Why an update makes no change.

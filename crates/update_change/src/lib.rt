@@ -6,14 +6,14 @@ mod change;
 mod contention;
 mod fault;
 mod limit;
-mod made;
 mod moved;
 mod moves;
+mod new_relation;
+mod pair_rows;
 mod pairs_fault;
 mod pairs_rows;
-mod parts;
+mod present;
 mod replacements;
-mod there;
 mod update;
 
 pub use apart::rows_of_pairs;

@@ -4,9 +4,9 @@ ghost use Rattle.std.specs.Prelude.{◌≡◌, ◌+◌, ◌-◌, nat_lt, length,
 ghost use Rattle.calculus.specs.Database.{Db};
 ghost use Rattle.calculus.specs.Limits.{most_rows};
 ghost use Rattle.calculus.specs.Stored.{rows_at};
-ghost use Rattle.am_traits.specs.Causes.{HasCause};
+ghost use Rattle.base_trait.specs.Causes.{HasCause};
 
-use am_traits::{Base, BaseFault};
+use base_trait::{Base, BaseFault};
 use calculus::limits::MOST_ROWS;
 use calculus::{Change, RelKey};
 use std::alloc::Global;
@@ -34,7 +34,7 @@ pub(crate) fn rows_left<B: Base>(
     key: &RelKey,
     change: &Change,
 ) -> Result<usize, BaseFault>
-    ensures told { (db : Db) → B.database base.old ≡ Some db
+    ensures known { (db : Db) → B.database base.old ≡ Some db
         → IfOk result (λ left. left ≡ length (rows_at db key.now) + length change.now.add - length change.now.remove) }
     ensures kept { B.database base.new ≡ B.database base.old }
     ensures stays { (s : Db) → B.schema base.old ≡ Some s → B.schema base.new ≡ Some s }

@@ -6,14 +6,14 @@ ghost use Rattle.calculus.specs.Limits.{most_rows};
 ghost use Rattle.calculus.specs.Replacement.{after, contended, without_rows};
 ghost use Rattle.calculus.specs.Rows.{has, set_of};
 ghost use Rattle.calculus.specs.Stored.{rows_at};
-ghost use Rattle.am_traits.specs.Causes.{HasCause as HasBaseCause};
+ghost use Rattle.base_trait.specs.Causes.{HasCause as HasBaseCause};
 ghost use Rattle.update_change.specs.Causes.{HasCause};
 
 use crate::limit::{are_too_many, rows_left};
 use crate::pairs_rows::pairs_rows;
-use crate::there::{those_absent, those_there};
+use crate::present::{rows_absent, rows_present};
 use crate::{UpdateFault, without};
-use am_traits::{Base, BaseFault};
+use base_trait::{Base, BaseFault};
 use calculus::{Change, Pair, RelKey, RowSet, Update};
 use std::alloc::Global;
 
@@ -35,8 +35,8 @@ fn rows_asked<B: Base>(
     ensures cause { HasBaseCause (B.database base.old) (B.faults base.old) (B.faults base.new) result }
 {
     let going = without(old, &new);
-    match those_there(alloc, base, key, going.into_rows()) {
-        Ok(remove) => match those_absent(alloc, base, key, new.into_rows()) {
+    match rows_present(alloc, base, key, going.into_rows()) {
+        Ok(remove) => match rows_absent(alloc, base, key, new.into_rows()) {
             Ok(add) => Ok(Change { remove, add }),
             Err(error) => {
                 drop(remove);

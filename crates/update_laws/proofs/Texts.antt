@@ -3,9 +3,9 @@ use Rattle.std.proofs.Common.{refl, ◌∙◌, ℕ, ◌≤◌, ◌==◌, Bool, t
 use Rattle.std.specs.List.{list_all}
 use Rattle.std.proofs.lemmas.Bool.Decides.{nat_tests}
 use Rattle.std.proofs.lemmas.List.Folds.{list_all-append}
-use Rattle.calculus.specs.declared.mark.Mark.{Mark}
+use Rattle.calculus.specs.declared.unescaped.Unescaped.{Unescaped}
 use Rattle.calculus.specs.Chars.{is_printable, is_chars}
-use Rattle.calculus.specs.Constant.{mark, marks_behind, marks, plain_bytes, constant_text}
+use Rattle.calculus.specs.Constant.{unescaped_byte, unescaped_behind, unescaped, plain_bytes, constant_text}
 use Rattle.calculus.specs.Name.{is_name, is_name_byte, starts_name}
 use Rattle.calculus.specs.Text.{is_text, is_blank, ends_without_blank, trimmed}
 use Rattle.calculus.proofs.Texts.{trimmed_text}
@@ -24,28 +24,28 @@ short n h = grind (arith, nat_tests, h)
 -- ---- constants
 
 -- the bytes that are meant are among those that are written
-meant_printable : (taken : Bool) (bs : List ℕ) → IsTrue (list_all is_printable bs) → IsTrue (list_all is_printable (plain_bytes (marks_behind taken bs)))
+meant_printable : (taken : Bool) (bs : List ℕ) → IsTrue (list_all is_printable bs) → IsTrue (list_all is_printable (plain_bytes (unescaped_behind taken bs)))
 meant_printable true [] h = refl
 meant_printable false [] h = refl
 meant_printable true (b ∷ bs) h =
     let parts = both (is_printable b) (list_all is_printable bs) h in
-    each (is_printable b) (list_all is_printable (plain_bytes (marks_behind false bs))) parts.0 (meant_printable false bs parts.1)
+    each (is_printable b) (list_all is_printable (plain_bytes (unescaped_behind false bs))) parts.0 (meant_printable false bs parts.1)
 meant_printable false (b ∷ bs) h =
     let parts = both (is_printable b) (list_all is_printable bs) h in
     go (b == 92) parts.0 (meant_printable true bs parts.1) (meant_printable false bs parts.1)
   where
-    go : (c : Bool) → IsTrue (is_printable b) → IsTrue (list_all is_printable (plain_bytes (marks_behind true bs))) → IsTrue (list_all is_printable (plain_bytes (marks_behind false bs)))
-        → IsTrue (list_all is_printable (plain_bytes (elim c as (λ c. List Mark) [ true ↦ marks_behind true bs | false ↦ mark b false ∷ marks_behind false bs ])))
+    go : (c : Bool) → IsTrue (is_printable b) → IsTrue (list_all is_printable (plain_bytes (unescaped_behind true bs))) → IsTrue (list_all is_printable (plain_bytes (unescaped_behind false bs)))
+        → IsTrue (list_all is_printable (plain_bytes (elim c as (λ c. List Unescaped) [ true ↦ unescaped_behind true bs | false ↦ unescaped_byte b false ∷ unescaped_behind false bs ])))
     go true p t f = t
-    go false p t f = each (is_printable b) (list_all is_printable (plain_bytes (marks_behind false bs))) p f
+    go false p t f = each (is_printable b) (list_all is_printable (plain_bytes (unescaped_behind false bs))) p f
 
 chars_printable : (bytes : List ℕ) → IsTrue (is_chars bytes) → IsTrue (list_all is_printable bytes)
 unfolding is_chars
 chars_printable bytes h = (both (nat_le (length bytes) 255) (list_all is_printable bytes) h).1
 
 constant_fits : (bytes : List ℕ) → IsTrue (list_all is_printable bytes) → length (constant_text bytes) ≤ 255 → IsTrue (is_text (constant_text bytes))
-unfolding constant_text marks
-constant_fits bytes h n = trimmed_text (plain_bytes (marks_behind false bytes)) (meant_printable false bytes h) (short (length (trimmed (plain_bytes (marks_behind false bytes)))) n)
+unfolding constant_text unescaped
+constant_fits bytes h n = trimmed_text (plain_bytes (unescaped_behind false bytes)) (meant_printable false bytes h) (short (length (trimmed (plain_bytes (unescaped_behind false bytes)))) n)
 
 pub constant_is_text : (bytes : List ℕ) → IsTrue (is_chars bytes) → IsTrue (is_text (constant_text bytes))
 constant_is_text bytes h = constant_fits bytes (chars_printable bytes h) (constant_short bytes h)

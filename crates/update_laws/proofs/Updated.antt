@@ -25,8 +25,8 @@ use Rattle.calculus.specs.Targets.{target_values}
 use Rattle.calculus.specs.VariableRows.{rows_of}
 use Rattle.calculus.specs.Aggregate.{aggregates}
 use Rattle.calculus.specs.IsDatabase.{IsDatabase, are_stored, row_fits}
-use Rattle.calculus.specs.Pairs.{pair_of, pair_stands, pairs}
-use Rattle.calculus.specs.Replacement.{old_rows, new_rows, with_rows, without_rows, after, made_attr, wanted_kinds, all_fit, values_fit, rows_after, rows_change, update_refusals, first_cause, change_of, updated}
+use Rattle.calculus.specs.Pairs.{pair_of, pair_allowed, pairs}
+use Rattle.calculus.specs.Replacement.{old_rows, new_rows, with_rows, without_rows, after, made_attr, wanted_kinds, all_fit, values_fit, rows_after, rows_change, update_refusals, first_refusal, change_of, updated}
 use Rattle.calculus.specs.Change.{IsLawful}
 use Rattle.calculus.proofs.Sets.{Ascends-nil, Ascends-put}
 use Rattle.quel_meaning.specs.Fit.{new_attrs, is_this_key, relation_fits}
@@ -95,8 +95,8 @@ new_rows_fit : (db : Db) (who : Who) (u : Update) → Given db who u → IsTrue 
     → Each (λ row. IsTrue (row_fits (new_attrs db u) row)) (new_rows (pairs db who u))
 new_rows_fit db who u g fit = subst (λ ps. Each (λ row. IsTrue (row_fits (new_attrs db u) row)) (new_rows ps)) (sym (pairs_with_old db who u))
     (in_filter_map (λ p. Fits (new_attrs db u) p.new) (λ row. IsTrue (row_fits (new_attrs db u) row)) (λ p. p.new) (λ p h row e. subst (Fits (new_attrs db u)) e h)
-    (filter (pair_stands db who u) (filter_map (pair_in db who u) (seen_qualifying db who u)))
-    (in_filter (λ p. Fits (new_attrs db u) p.new) (pair_stands db who u) (filter_map (pair_in db who u) (seen_qualifying db who u))
+    (filter (pair_allowed db who u) (filter_map (pair_in db who u) (seen_qualifying db who u)))
+    (in_filter (λ p. Fits (new_attrs db u) p.new) (pair_allowed db who u) (filter_map (pair_in db who u) (seen_qualifying db who u))
     (in_filter_map (λ e. IsAssigned db u e × IsTrue (all_fit (wanted_kinds db u) (target_values (aggregates db who) (targets_of u.query) e))) (λ p. Fits (new_attrs db u) p.new) (pair_in db who u)
     (new_fits db who u g) (seen_qualifying db who u)
     (two_each (IsAssigned db u) (λ e. IsTrue (all_fit (wanted_kinds db u) (target_values (aggregates db who) (targets_of u.query) e))) (seen_qualifying db who u)
@@ -211,21 +211,21 @@ few_rows : (n : ℕ) → nat_lt most_rows n ≡ false → IsTrue (nat_le n most_
 few_rows n h = grind (arith, nat_tests, h)
 
 -- where no cause is there, each is absent
-all_absent : (causes : List (ℕ × Bool)) → first_cause causes ≡ None → Each (λ c. c.1 ≡ false) causes
+all_absent : (refusals : List (ℕ × Bool)) → first_refusal refusals ≡ None → Each (λ c. c.1 ≡ false) refusals
 all_absent [] h = tt
-all_absent (c ∷ causes) h = go c.1 h (all_absent causes)
+all_absent (c ∷ refusals) h = go c.1 h (all_absent refusals)
   where
-    go : (b : Bool) → (elim b as (λ b. Option ℕ) [ true ↦ Some c.0 | false ↦ first_cause causes ]) ≡ None → (first_cause causes ≡ None → Each (λ c. c.1 ≡ false) causes)
-        → (b ≡ false) × Each (λ c. c.1 ≡ false) causes
+    go : (b : Bool) → (elim b as (λ b. Option ℕ) [ true ↦ Some c.0 | false ↦ first_refusal refusals ]) ≡ None → (first_refusal refusals ≡ None → Each (λ c. c.1 ≡ false) refusals)
+        → (b ≡ false) × Each (λ c. c.1 ≡ false) refusals
     go true h later = cc h
     go false h later = (refl, later h)
 
-not_refused : (db : Db) (who : Who) (u : Update) (change : DbChange) → updated db who u ≡ Ok change → (first_cause (update_refusals db who u) ≡ None) × (change_of db who u ≡ change)
+not_refused : (db : Db) (who : Who) (u : Update) (change : DbChange) → updated db who u ≡ Ok change → (first_refusal (update_refusals db who u) ≡ None) × (change_of db who u ≡ change)
 unfolding updated
-not_refused db who u change h = go (first_cause (update_refusals db who u)) refl h
+not_refused db who u change h = go (first_refusal (update_refusals db who u)) refl h
   where
-    go : (o : Option ℕ) → first_cause (update_refusals db who u) ≡ o → (elim o as (λ o. Result DbChange ℕ) [ None ↦ Ok (change_of db who u) | Some number ↦ Err number ]) ≡ Ok change
-        → (first_cause (update_refusals db who u) ≡ None) × (change_of db who u ≡ change)
+    go : (o : Option ℕ) → first_refusal (update_refusals db who u) ≡ o → (elim o as (λ o. Result DbChange ℕ) [ None ↦ Ok (change_of db who u) | Some number ↦ Err number ]) ≡ Ok change
+        → (first_refusal (update_refusals db who u) ≡ None) × (change_of db who u ≡ change)
     go None e h = (e, cc h)
     go (Some number) e h = cc h
 

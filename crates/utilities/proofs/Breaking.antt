@@ -15,7 +15,7 @@ use Rattle.calculus.specs.Stored.{rows_at}
 use Rattle.calculus.specs.Table.{tabled}
 use Rattle.calculus.specs.Term.{Env, holds, no_aggs}
 use Rattle.calculus.specs.Value.{row_cmp}
-use Rattle.am_traits.specs.Scans.{next_meeting, first_place, IsScan}
+use Rattle.base_trait.specs.Scans.{next_meeting, first_place, IsScan}
 use Rattle.ovqp.proofs.FewRows.{few_rows}
 use Rattle.ovqp.proofs.ByScan.{first_left, none_left}
 
@@ -78,9 +78,9 @@ pub of_all : (test : Row → Bool) (set rows : List Row) (b : Bool) → IsScan s
 of_all test set rows b scan h = sym (ap (list_any test) (sym scan.all) ∙ any_set test rows ∙ h)
 
 -- no database has so many rows under a key
-pub too_many : (told : Option Db) (left : RelKey → Place → List Row) (key : RelKey) (at : Place) (calls : ℕ)
-    → ((db : Db) → told ≡ Some db → IsDatabase db) → ((db : Db) → told ≡ Some db → IsScan (rows_at db key) (left key first_place))
-    → ((db : Db) → told ≡ Some db → calls + length (left key at) ≡ length (left key first_place)) → 1000000 < calls → told ≡ None
+pub too_many : (known : Option Db) (left : RelKey → Place → List Row) (key : RelKey) (at : Place) (calls : ℕ)
+    → ((db : Db) → known ≡ Some db → IsDatabase db) → ((db : Db) → known ≡ Some db → IsScan (rows_at db key) (left key first_place))
+    → ((db : Db) → known ≡ Some db → calls + length (left key at) ≡ length (left key first_place)) → 1000000 < calls → known ≡ None
 too_many None left key at calls lawful scanned counted many = refl
 too_many (Some db) left key at calls lawful scanned counted many =
     let few = few_rows db key (lawful db refl) in

@@ -5,7 +5,7 @@ use Rattle.calculus.specs.declared.query.RelKey.{RelKey}
 use Rattle.calculus.specs.Database.{Db, View}
 use Rattle.calculus.specs.Keys.{same_key, has_key}
 use Rattle.calculus.specs.QueryParts.{vars_of}
-use Rattle.am_traits.specs.Told.{is_named_by_view}
+use Rattle.base_trait.specs.Known.{is_named_by_view}
 use Rattle.quel_meaning.specs.Planned.{is_in_use}
 use Rattle.plan_laws.proofs.Orders.{same_key_is, same_key_itself}
 

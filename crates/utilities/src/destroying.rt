@@ -2,21 +2,21 @@
 
 ghost use Rattle.std.specs.Prelude.{◌≡◌, ◌∷◌, [], Some, Ok as Planned, IfOk};
 ghost use Rattle.std.specs.List.{list_any};
-ghost use Rattle.am_traits.specs.Causes.{HasCause as HasBaseCause};
-ghost use Rattle.am_traits.specs.Told.{is_named_by_view};
+ghost use Rattle.base_trait.specs.Causes.{HasCause as HasBaseCause};
+ghost use Rattle.base_trait.specs.Known.{is_named_by_view};
 ghost use Rattle.calculus.specs.Catalogue.{is_catalogue};
 ghost use Rattle.calculus.specs.Database.{Db};
-ghost use Rattle.calculus.specs.Replacement.{first_cause};
+ghost use Rattle.calculus.specs.Replacement.{first_refusal};
 ghost use Rattle.calculus.specs.declared.change.DbChange.TheVariants as change;
 ghost use Rattle.calculus.specs.declared.request.Utility.TheVariants as utility;
-ghost use Rattle.quel_meaning.specs.Planned.{is_anothers, is_in_use, planned};
+ghost use Rattle.quel_meaning.specs.Planned.{is_not_the_owner, is_in_use, planned};
 ghost use Rattle.utilities.specs.Causes.{HasCauseBy};
 ghost use Rattle.utilities.specs.Owning.{is_catalogue_of};
 
 use crate::UtilFault;
-use crate::numbers::{ANOTHERS, IN_USE, IS_CATALOGUE};
-use crate::owners::is_anothers;
-use am_traits::{Base, BaseFault};
+use crate::numbers::{IN_USE, IS_CATALOGUE, NOT_THE_OWNER};
+use crate::owners::is_not_the_owner;
+use base_trait::{Base, BaseFault};
 use calculus::{DbChange, List, Name, OutOfMemory, RelKey, TryCopy};
 use quel_refusals::is_catalogue_name;
 use std::alloc::Global;
@@ -38,7 +38,7 @@ fn has_catalogue(dba: &Name, rels: &[RelKey]) -> bool
 
 /// Whether one of the keys is that of a catalogue.
 fn some_catalogue<B: Base>(alloc: Global, base: &mut B, rels: &[RelKey]) -> Result<bool, BaseFault>
-    ensures told { (db : Db) → B.schema base.old ≡ Some db → IfOk result (λ b. b ≡ list_any (is_catalogue db) rels.now) }
+    ensures known { (db : Db) → B.schema base.old ≡ Some db → IfOk result (λ b. b ≡ list_any (is_catalogue db) rels.now) }
     ensures kept { B.database base.new ≡ B.database base.old }
     ensures stays { (s : Db) → B.schema base.old ≡ Some s → B.schema base.new ≡ Some s }
     ensures asked { (b : B) → B.asked b base.old → B.asked b base.new }
@@ -49,10 +49,10 @@ fn some_catalogue<B: Base>(alloc: Global, base: &mut B, rels: &[RelKey]) -> Resu
 }
 
 /// Whether the user is not the owner of one of the keys.
-fn some_anothers(user: &Name, rels: &[RelKey]) -> bool
-    ensures { result ≡ list_any (is_anothers user.now) rels.now }
+fn some_not_the_owners(user: &Name, rels: &[RelKey]) -> bool
+    ensures { result ≡ list_any (is_not_the_owner user.now) rels.now }
 {
-    rels.iter().any(|key| is_anothers(user, key))
+    rels.iter().any(|key| is_not_the_owner(user, key))
 }
 
 /// Whether a view that is none of `all` names what has one of the keys.
@@ -62,7 +62,7 @@ fn some_named<B: Base>(
     all: &[RelKey],
     rels: &[RelKey],
 ) -> Result<bool, BaseFault>
-    ensures told { (db : Db) → B.schema base.old ≡ Some db → IfOk result (λ b. b ≡ list_any (is_named_by_view db all.now) rels.now) }
+    ensures known { (db : Db) → B.schema base.old ≡ Some db → IfOk result (λ b. b ≡ list_any (is_named_by_view db all.now) rels.now) }
     ensures kept { B.database base.new ≡ B.database base.old }
     ensures stays { (s : Db) → B.schema base.old ≡ Some s → B.schema base.new ≡ Some s }
     ensures asked { (b : B) → B.asked b base.old → B.asked b base.new }
@@ -79,7 +79,7 @@ fn some_named<B: Base>(
 
 /// Whether a view outside the keys names what has one of them.
 fn is_in_use<B: Base>(alloc: Global, base: &mut B, rels: &[RelKey]) -> Result<bool, BaseFault>
-    ensures told { (db : Db) → B.schema base.old ≡ Some db → IfOk result (λ b. b ≡ is_in_use db rels.now) }
+    ensures known { (db : Db) → B.schema base.old ≡ Some db → IfOk result (λ b. b ≡ is_in_use db rels.now) }
     ensures kept { B.database base.new ≡ B.database base.old }
     ensures stays { (s : Db) → B.schema base.old ≡ Some s → B.schema base.new ≡ Some s }
     ensures asked { (b : B) → B.asked b base.old → B.asked b base.new }
@@ -90,14 +90,14 @@ fn is_in_use<B: Base>(alloc: Global, base: &mut B, rels: &[RelKey]) -> Result<bo
 
 /// What refuses that what has the keys goes: a catalogue among them, one that is another's, or a view
 /// that stays and names one of them.
-fn destroying_cause<B: Base>(
+fn destroying_refusal<B: Base>(
     alloc: Global,
     base: &mut B,
     user: &Name,
     rels: &[RelKey],
 ) -> Result<Option<u8>, BaseFault>
-    ensures told { (db : Db) → B.schema base.old ≡ Some db
-        → IfOk result (λ n. n ≡ first_cause ((28, list_any (is_catalogue db) rels.now) ∷ (24, list_any (is_anothers user.now) rels.now) ∷ (25, is_in_use db rels.now) ∷ [])) }
+    ensures known { (db : Db) → B.schema base.old ≡ Some db
+        → IfOk result (λ n. n ≡ first_refusal ((28, list_any (is_catalogue db) rels.now) ∷ (24, list_any (is_not_the_owner user.now) rels.now) ∷ (25, is_in_use db rels.now) ∷ [])) }
     ensures kept { B.database base.new ≡ B.database base.old }
     ensures stays { (s : Db) → B.schema base.old ≡ Some s → B.schema base.new ≡ Some s }
     ensures asked { (b : B) → B.asked b base.old → B.asked b base.new }
@@ -106,8 +106,8 @@ fn destroying_cause<B: Base>(
     if some_catalogue(alloc, base, rels)? {
         return Ok(Some(IS_CATALOGUE));
     }
-    if some_anothers(user, rels) {
-        return Ok(Some(ANOTHERS));
+    if some_not_the_owners(user, rels) {
+        return Ok(Some(NOT_THE_OWNER));
     }
     if is_in_use(alloc, base, rels)? {
         return Ok(Some(IN_USE));
@@ -138,7 +138,7 @@ pub(crate) fn destroyed<B: Base>(
     ensures asked { (b : B) → B.asked b base.old → B.asked b base.new }
     ensures cause { HasCauseBy user.now (utility.Destroy rels.now) (B.schema base.old) (B.database base.old) (B.faults base.old) (B.faults base.new) result }
 {
-    match destroying_cause(alloc, base, user, rels.items()) {
+    match destroying_refusal(alloc, base, user, rels.items()) {
         Ok(None) => Ok(all_gone(alloc, rels)?),
         Ok(Some(cause)) => Err(UtilFault::No(cause)),
         Err(fault) => Err(UtilFault::Base(fault)),

@@ -2,23 +2,23 @@
 
 ghost use Rattle.std.specs.Prelude.{◌≡◌, ◌++◌, ◌∷◌, [], not, Some, Ok as Planned, IfOk};
 ghost use Rattle.std.specs.List.{list_all};
-ghost use Rattle.am_traits.specs.Causes.{HasCause as HasBaseCause};
+ghost use Rattle.base_trait.specs.Causes.{HasCause as HasBaseCause};
 ghost use Rattle.calculus.specs.Catalogue.{is_catalogue};
 ghost use Rattle.calculus.specs.Database.{Db};
 ghost use Rattle.calculus.specs.Lists.{has_number};
-ghost use Rattle.calculus.specs.Replacement.{first_cause};
+ghost use Rattle.calculus.specs.Replacement.{first_refusal};
 ghost use Rattle.calculus.specs.declared.change.DbChange.TheVariants as change;
 ghost use Rattle.calculus.specs.declared.request.Utility.TheVariants as utility;
-ghost use Rattle.quel_meaning.specs.Planned.{dropped, has_view, is_none_to_permit, owner_causes, planned};
+ghost use Rattle.quel_meaning.specs.Planned.{dropped, has_view, may_not_grant, owner_refusals, planned};
 ghost use Rattle.utilities.specs.Causes.{HasCauseBy};
 
 use crate::UtilFault;
-use crate::listed::{dropped, listed_cause};
-use crate::owners::{owner_cause, permitting_cause};
-use am_traits::{Base, BaseFault};
+use crate::listed::{dropped, listed_refusal};
+use crate::owners::{owner_refusal, permitting_refusal};
+use base_trait::{Base, BaseFault};
 use calculus::{DbChange, Name, OutOfMemory, RelKey, TryCopy};
 use memory::both;
-use quel_refusals::{standing_permits, standing_rules};
+use quel_refusals::{existing_permits, existing_rules};
 use std::alloc::Global;
 
 /// The change that takes away permits with these numbers, of those that stand.
@@ -53,7 +53,7 @@ fn rules_dropped(
 
 /// What refuses that permits go, where those with these numbers stand: their relation, or a listed
 /// number that isn't one of these.
-fn permits_cause<B: Base>(
+fn permits_refusal<B: Base>(
     alloc: Global,
     base: &mut B,
     user: &Name,
@@ -61,22 +61,22 @@ fn permits_cause<B: Base>(
     standing: &[u32],
     numbers: &[u32],
 ) -> Result<Option<u8>, BaseFault>
-    ensures told { (db : Db) → B.schema base.old ≡ Some db
-        → IfOk result (λ n. n ≡ first_cause ((28, is_catalogue db rel.now) ∷ (26, has_view db rel.now) ∷ (24, is_none_to_permit db user.now rel.now) ∷ (19, not (list_all (has_number standing.now) numbers.now)) ∷ [])) }
+    ensures known { (db : Db) → B.schema base.old ≡ Some db
+        → IfOk result (λ n. n ≡ first_refusal ((28, is_catalogue db rel.now) ∷ (26, has_view db rel.now) ∷ (24, may_not_grant db user.now rel.now) ∷ (19, not (list_all (has_number standing.now) numbers.now)) ∷ [])) }
     ensures kept { B.database base.new ≡ B.database base.old }
     ensures stays { (s : Db) → B.schema base.old ≡ Some s → B.schema base.new ≡ Some s }
     ensures asked { (b : B) → B.asked b base.old → B.asked b base.new }
     ensures cause { HasBaseCause (B.database base.old) (B.faults base.old) (B.faults base.new) result }
 {
-    match permitting_cause(alloc, base, user, rel) {
-        Ok(None) => Ok(listed_cause(standing, numbers)),
+    match permitting_refusal(alloc, base, user, rel) {
+        Ok(None) => Ok(listed_refusal(standing, numbers)),
         other => other,
     }
 }
 
 /// What refuses that rules go, where those with these numbers stand: their relation, or a listed
 /// number that isn't one of these.
-fn rules_cause<B: Base>(
+fn rules_refusal<B: Base>(
     alloc: Global,
     base: &mut B,
     user: &Name,
@@ -84,15 +84,15 @@ fn rules_cause<B: Base>(
     standing: &[u32],
     numbers: &[u32],
 ) -> Result<Option<u8>, BaseFault>
-    ensures told { (db : Db) → B.schema base.old ≡ Some db
-        → IfOk result (λ n. n ≡ first_cause (owner_causes db user.now rel.now ++ (19, not (list_all (has_number standing.now) numbers.now)) ∷ [])) }
+    ensures known { (db : Db) → B.schema base.old ≡ Some db
+        → IfOk result (λ n. n ≡ first_refusal (owner_refusals db user.now rel.now ++ (19, not (list_all (has_number standing.now) numbers.now)) ∷ [])) }
     ensures kept { B.database base.new ≡ B.database base.old }
     ensures stays { (s : Db) → B.schema base.old ≡ Some s → B.schema base.new ≡ Some s }
     ensures asked { (b : B) → B.asked b base.old → B.asked b base.new }
     ensures cause { HasBaseCause (B.database base.old) (B.faults base.old) (B.faults base.new) result }
 {
-    match owner_cause(alloc, base, user, rel) {
-        Ok(None) => Ok(listed_cause(standing, numbers)),
+    match owner_refusal(alloc, base, user, rel) {
+        Ok(None) => Ok(listed_refusal(standing, numbers)),
         other => other,
     }
 }
@@ -111,8 +111,8 @@ pub(crate) fn permits_gone<B: Base>(
     ensures asked { (b : B) → B.asked b base.old → B.asked b base.new }
     ensures cause { HasCauseBy user.now (utility.DropPermits rel.now numbers.now) (B.schema base.old) (B.database base.old) (B.faults base.old) (B.faults base.new) result }
 {
-    let standing = standing_permits(alloc, base, rel)?;
-    match permits_cause(alloc, base, user, rel, &standing, numbers) {
+    let standing = existing_permits(alloc, base, rel)?;
+    match permits_refusal(alloc, base, user, rel, &standing, numbers) {
         Ok(None) => Ok(permits_dropped(alloc, rel, standing, numbers)?),
         Ok(Some(cause)) => Err(UtilFault::No(cause)),
         Err(fault) => Err(UtilFault::Base(fault)),
@@ -133,8 +133,8 @@ pub(crate) fn rules_gone<B: Base>(
     ensures asked { (b : B) → B.asked b base.old → B.asked b base.new }
     ensures cause { HasCauseBy user.now (utility.DropRules rel.now numbers.now) (B.schema base.old) (B.database base.old) (B.faults base.old) (B.faults base.new) result }
 {
-    let standing = standing_rules(alloc, base, rel)?;
-    match rules_cause(alloc, base, user, rel, &standing, numbers) {
+    let standing = existing_rules(alloc, base, rel)?;
+    match rules_refusal(alloc, base, user, rel, &standing, numbers) {
         Ok(None) => Ok(rules_dropped(alloc, rel, standing, numbers)?),
         Ok(Some(cause)) => Err(UtilFault::No(cause)),
         Err(fault) => Err(UtilFault::Base(fault)),

@@ -4,8 +4,8 @@
 mod destroying;
 mod dropping;
 mod fault;
-mod judging;
 mod listed;
+mod meeting;
 mod numbering;
 mod numbers;
 mod owners;
@@ -16,5 +16,5 @@ mod structures;
 mod views;
 
 pub use fault::UtilFault;
-pub use owners::owner_cause;
+pub use owners::owner_refusal;
 pub use planning::plan;

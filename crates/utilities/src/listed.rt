@@ -3,7 +3,7 @@
 ghost use Rattle.std.specs.Prelude.{◌≡◌, ◌∷◌, [], not, IfOk};
 ghost use Rattle.std.specs.List.{list_all};
 ghost use Rattle.calculus.specs.Lists.{has_number};
-ghost use Rattle.calculus.specs.Replacement.{first_cause};
+ghost use Rattle.calculus.specs.Replacement.{first_refusal};
 ghost use Rattle.quel_meaning.specs.Planned.{ascending, dropped};
 
 use crate::numbers::NOT_STANDING;
@@ -25,8 +25,8 @@ fn all_stand(standing: &[u32], numbers: &[u32]) -> bool
 }
 
 /// The cause that a listed number isn't one of those that stand, where one isn't.
-pub(crate) fn listed_cause(standing: &[u32], numbers: &[u32]) -> Option<u8>
-    ensures { result ≡ first_cause ((19, not (list_all (has_number standing.now) numbers.now)) ∷ []) }
+pub(crate) fn listed_refusal(standing: &[u32], numbers: &[u32]) -> Option<u8>
+    ensures { result ≡ first_refusal ((19, not (list_all (has_number standing.now) numbers.now)) ∷ []) }
 {
     if all_stand(standing, numbers) {
         None

@@ -7,7 +7,7 @@ pub(crate) const PAST_LIMIT: u8 = 14;
 pub(crate) const NOT_STANDING: u8 = 19;
 
 /// What would be changed is another's.
-pub(crate) const ANOTHERS: u8 = 24;
+pub(crate) const NOT_THE_OWNER: u8 = 24;
 
 /// A view that stays names what would go.
 pub(crate) const IN_USE: u8 = 25;

@@ -10,11 +10,11 @@ ghost use Rattle.utilities.specs.Causes.{HasCauseBy};
 use crate::UtilFault;
 use crate::numbering::next_number;
 use crate::numbers::PAST_LIMIT;
-use crate::owners::permitting_cause;
-use am_traits::Base;
+use crate::owners::permitting_refusal;
+use base_trait::Base;
 use calculus::{DbChange, Name, OutOfMemory, Permit, RelKey, TryCopy};
 use memory::both;
-use quel_refusals::standing_permits;
+use quel_refusals::existing_permits;
 use std::alloc::Global;
 
 /// The permit with this number.
@@ -55,12 +55,12 @@ pub(crate) fn permit_planned<B: Base>(
     ensures asked { (b : B) → B.asked b base.old → B.asked b base.new }
     ensures cause { HasCauseBy user.now (utility.Permit rel.now permit.now) (B.schema base.old) (B.database base.old) (B.faults base.old) (B.faults base.new) result }
 {
-    let standing = standing_permits(alloc, base, rel)?;
+    let standing = existing_permits(alloc, base, rel)?;
     let next = next_number(&standing);
     drop(standing);
     match next {
         None => Err(UtilFault::No(PAST_LIMIT)),
-        Some(number) => match permitting_cause(alloc, base, user, rel) {
+        Some(number) => match permitting_refusal(alloc, base, user, rel) {
             Ok(None) => Ok(permit_made(alloc, rel, permit, number)?),
             Ok(Some(cause)) => Err(UtilFault::No(cause)),
             Err(fault) => Err(UtilFault::Base(fault)),

@@ -15,7 +15,7 @@ use crate::permits::permit_planned;
 use crate::rules::rule_planned;
 use crate::structures::{index_planned, structure_planned};
 use crate::views::view_made;
-use am_traits::Base;
+use base_trait::Base;
 use calculus::{Attr, DbChange, List, Name, OutOfMemory, RelInfo, RelKey, Spec, TryCopy, Utility};
 use std::alloc::Global;
 

@@ -10,8 +10,8 @@ ghost use Rattle.quel_meaning.specs.Structures.{first_or_these, structure_keys};
 ghost use Rattle.utilities.specs.Causes.{HasCauseBy};
 
 use crate::UtilFault;
-use crate::owners::owner_cause;
-use am_traits::Base;
+use crate::owners::owner_refusal;
+use base_trait::Base;
 use calculus::{DbChange, List, Name, OutOfMemory, RelKey, Spec, TryCopy};
 use memory::both;
 use std::alloc::Global;
@@ -94,7 +94,7 @@ pub(crate) fn structure_planned<B: Base>(
     ensures asked { (b : B) → B.asked b base.old → B.asked b base.new }
     ensures cause { HasCauseBy user.now (utility.Modify rel.now to keys.now) (B.schema base.old) (B.database base.old) (B.faults base.old) (B.faults base.new) result }
 {
-    match owner_cause(alloc, base, user, rel) {
+    match owner_refusal(alloc, base, user, rel) {
         Ok(None) => Ok(restructured(alloc, rel, to, keys)?),
         Ok(Some(cause)) => Err(UtilFault::No(cause)),
         Err(fault) => Err(UtilFault::Base(fault)),
@@ -116,7 +116,7 @@ pub(crate) fn index_planned<B: Base>(
     ensures asked { (b : B) → B.asked b base.old → B.asked b base.new }
     ensures cause { HasCauseBy user.now (utility.Index rel.now name.now keys.now) (B.schema base.old) (B.database base.old) (B.faults base.old) (B.faults base.new) result }
 {
-    match owner_cause(alloc, base, user, rel) {
+    match owner_refusal(alloc, base, user, rel) {
         Ok(None) => Ok(index_made(alloc, rel, name, keys)?),
         Ok(Some(cause)) => Err(UtilFault::No(cause)),
         Err(fault) => Err(UtilFault::Base(fault)),

@@ -16,12 +16,12 @@ use Rattle.calculus.specs.Finding.{found}
 use Rattle.calculus.specs.Keys.{same_key}
 use Rattle.calculus.specs.Kinds.{is_text_kind}
 use Rattle.calculus.specs.Lists.{differ_by}
-use Rattle.calculus.specs.Replacement.{first_cause}
+use Rattle.calculus.specs.Replacement.{first_refusal}
 use Rattle.calculus.specs.Stored.{attrs_in, kinds_at}
 use Rattle.quel_meaning.proofs.Each.{Each, of_map}
 use Rattle.quel_meaning.proofs.Found.{IsFound, names_found, named_there, named_again}
-use Rattle.quel_meaning.specs.Aggregates.{aggregates_stand}
-use Rattle.quel_meaning.specs.Causes.{Causes, causes, causes_by, is_binary, is_binary_text, repeats}
+use Rattle.quel_meaning.specs.Aggregates.{aggregates_allowed}
+use Rattle.quel_meaning.specs.Causes.{Causes, refusals, refusals_by, is_binary, is_binary_text, repeats}
 use Rattle.quel_meaning.specs.Naming.{Relation, mentions, name_refusal, no_refusal, refusal_in}
 use Rattle.quel_meaning.specs.Passing.{is_full, is_taken}
 use Rattle.quel_meaning.specs.Ranges.{Ranges}
@@ -42,34 +42,34 @@ resolved_by db user ranges stmt name cause = elim name as (λ o. Result Checked 
 ]
 
 by_both : (db : Db) (user : List ℕ) (ranges : Ranges) (stmt : Statement)
-    → resolved db user ranges stmt ≡ resolved_by db user ranges stmt (name_refusal (scope_of db user ranges) stmt) (first_cause (causes (scope_of db user ranges) stmt))
+    → resolved db user ranges stmt ≡ resolved_by db user ranges stmt (name_refusal (scope_of db user ranges) stmt) (first_refusal (refusals (scope_of db user ranges) stmt))
 unfolding resolved
 by_both db user ranges stmt = refl
 
 -- a number, where it is that of the first cause whatever the query is
 by_cause : (db : Db) (user : List ℕ) (ranges : Ranges) (stmt : Statement) (n : ℕ) → name_refusal (scope_of db user ranges) stmt ≡ None
-    → ((stand : Bool) (q : Query) → first_cause (causes_by (scope_of db user ranges) stand q stmt) ≡ Some n) → resolved db user ranges stmt ≡ Err n
-unfolding causes
+    → ((stand : Bool) (q : Query) → first_refusal (refusals_by (scope_of db user ranges) stand q stmt) ≡ Some n) → resolved db user ranges stmt ≡ Err n
+unfolding refusals
 by_cause db user ranges stmt n h k =
     let s = scope_of db user ranges in
-    by_both db user ranges stmt ∙ (λ i. resolved_by db user ranges stmt (h i) (k (aggregates_stand s stmt) (query_of s stmt) i))
+    by_both db user ranges stmt ∙ (λ i. resolved_by db user ranges stmt (h i) (k (aggregates_allowed s stmt) (query_of s stmt) i))
 
 -- the tree, where there is no cause whatever the query is
 by_nothing : (db : Db) (user : List ℕ) (ranges : Ranges) (stmt : Statement) (tree : Checked) → name_refusal (scope_of db user ranges) stmt ≡ None
-    → ((stand : Bool) (q : Query) → first_cause (causes_by (scope_of db user ranges) stand q stmt) ≡ None) → ((q : Query) → tree ≡ tree_by (scope_of db user ranges) q stmt)
+    → ((stand : Bool) (q : Query) → first_refusal (refusals_by (scope_of db user ranges) stand q stmt) ≡ None) → ((q : Query) → tree ≡ tree_by (scope_of db user ranges) q stmt)
     → resolved db user ranges stmt ≡ Ok tree
-unfolding causes tree_of
+unfolding refusals tree_of
 by_nothing db user ranges stmt tree h k t =
     let s = scope_of db user ranges in
-    by_both db user ranges stmt ∙ (λ i. resolved_by db user ranges stmt (h i) (k (aggregates_stand s stmt) (query_of s stmt) i)) ∙ ap Ok (sym (t (query_of s stmt)))
+    by_both db user ranges stmt ∙ (λ i. resolved_by db user ranges stmt (h i) (k (aggregates_allowed s stmt) (query_of s stmt) i)) ∙ ap Ok (sym (t (query_of s stmt)))
 
 -- a first cause that isn't there is passed over
-passed_over : (n : ℕ) (b : Bool) (cs : Causes) → b ≡ false → first_cause ((n, b) ∷ cs) ≡ first_cause cs
-passed_over n b cs e = ap (λ b. elim b as (λ x. Option ℕ) [ true ↦ Some n | false ↦ first_cause cs ]) e
+passed_over : (n : ℕ) (b : Bool) (cs : Causes) → b ≡ false → first_refusal ((n, b) ∷ cs) ≡ first_refusal cs
+passed_over n b cs e = ap (λ b. elim b as (λ x. Option ℕ) [ true ↦ Some n | false ↦ first_refusal cs ]) e
 
 -- one that is there refuses
-refuses : (n : ℕ) (b : Bool) (cs : Causes) → b ≡ true → first_cause ((n, b) ∷ cs) ≡ Some n
-refuses n b cs e = ap (λ b. elim b as (λ x. Option ℕ) [ true ↦ Some n | false ↦ first_cause cs ]) e
+refuses : (n : ℕ) (b : Bool) (cs : Causes) → b ≡ true → first_refusal ((n, b) ∷ cs) ≡ Some n
+refuses n b cs e = ap (λ b. elim b as (λ x. Option ℕ) [ true ↦ Some n | false ↦ first_refusal cs ]) e
 
 -- ---- names that were found
 
@@ -123,15 +123,15 @@ unfolding mentions
 index_there db user ranges rel name keys h = there (scope_of db user ranges) rel (names_found (scope_of db user ranges) (statement.Index rel name keys) h).0
 
 -- what refuses an index
-abbrev index_causes : Db → List ℕ → List ℕ → List (List ℕ) → Causes
-index_causes db user name keys = (17, repeats keys) ∷ (14, is_full db) ∷ (15, is_taken db user name) ∷ []
+abbrev index_refusals : Db → List ℕ → List ℕ → List (List ℕ) → Causes
+index_refusals db user name keys = (17, repeats keys) ∷ (14, is_full db) ∷ (15, is_taken db user name) ∷ []
 
 pub index_number : (db : Db) (user : List ℕ) (ranges : Ranges) (rel name : List ℕ) (keys : List (List ℕ)) (n : ℕ) → name_refusal (scope_of db user ranges) (statement.Index rel name keys) ≡ None
-    → first_cause (index_causes db user name keys) ≡ Some n → resolved db user ranges (statement.Index rel name keys) ≡ Err n
+    → first_refusal (index_refusals db user name keys) ≡ Some n → resolved db user ranges (statement.Index rel name keys) ≡ Err n
 index_number db user ranges rel name keys n h e = by_cause db user ranges (statement.Index rel name keys) n h (λ stand q. e)
 
 pub index_tree : (db : Db) (user : List ℕ) (ranges : Ranges) (rel name : List ℕ) (keys : List (List ℕ)) (info : RelInfo) (tree : Checked)
-    → name_refusal (scope_of db user ranges) (statement.Index rel name keys) ≡ None → first_cause (index_causes db user name keys) ≡ None → found db user rel ≡ Some info
+    → name_refusal (scope_of db user ranges) (statement.Index rel name keys) ≡ None → first_refusal (index_refusals db user name keys) ≡ None → found db user rel ≡ Some info
     → tree ≡ Utility (utility.Index info.key name (map (place_found (Some info)) keys)) → resolved db user ranges (statement.Index rel name keys) ≡ Ok tree
 index_tree db user ranges rel name keys info tree h e f t =
     by_nothing db user ranges (statement.Index rel name keys) tree h (λ stand q. e)

@@ -1,4 +1,4 @@
 pub mod Answers
 pub mod Causes
-pub mod Served
+pub mod WithoutQuery
 pub mod Serving

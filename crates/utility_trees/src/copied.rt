@@ -20,14 +20,13 @@ use crate::CheckFault;
 use crate::finding::found;
 use crate::places::{place_in, place_of};
 use crate::repeated::columns_repeat;
-use am_traits::Base;
+use base_trait::Base;
 use calculus::refusals::{KINDS_DIFFER, NAMED_TWICE};
 use calculus::{
     Attr, Chars, Checked, CopyCol, CopyForm, Kind, List, Name, OutOfMemory, RelInfo, TryCopy,
-    Utility,
+    Utility, is_text_kind,
 };
 use memory::both;
-use quel_refusals::is_text_kind;
 use std::alloc::Global;
 
 /// Whether a column has a number's bytes.
@@ -117,7 +116,7 @@ fn copy_fitting(
     file: &Chars,
 ) -> Result<Checked, CheckFault>
     ensures said { Says (λ tree. (list_any (is_binary_text_of info.now) columns.now ≡ false) × (length info.now.attrs ≤ 256 → tree ≡ ForUtilities (utility.Copy info.now.key (map (copy_col (Some info.now)) columns.now) from file.now))) (λ number. (list_any (is_binary_text_of info.now) columns.now ≡ true) × (number ≡ 13)) result }
-    ensures no_fault { (told : Option Db) (before now : ℕ) → now ≡ before → IsCaused told before now result }
+    ensures no_fault { (known : Option Db) (before now : ℕ) → now ≡ before → IsCaused known before now result }
 {
     if any_is_binary_text(info, columns) {
         return Err(CheckFault::No(KINDS_DIFFER));
@@ -135,7 +134,7 @@ pub(crate) fn copied<B: Base>(
     from: bool,
     file: &Chars,
 ) -> Result<Checked, CheckFault>
-    ensures told { (db : Db) (ranges : Ranges) → B.schema base.old ≡ Some db → name_refusal (scope_of db user.now ranges) (statement.Copy rel.now columns.now from file.now) ≡ None
+    ensures known { (db : Db) (ranges : Ranges) → B.schema base.old ≡ Some db → name_refusal (scope_of db user.now ranges) (statement.Copy rel.now columns.now from file.now) ≡ None
         → Serves (scope_of db user.now ranges) (statement.Copy rel.now columns.now from file.now) result }
     ensures kept { B.database base.new ≡ B.database base.old }
     ensures stays { (s : Db) → B.schema base.old ≡ Some s → B.schema base.new ≡ Some s }

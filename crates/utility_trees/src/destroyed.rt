@@ -17,7 +17,7 @@ ghost use Rattle.utility_trees.specs.Serving.{Serves};
 use crate::CheckFault;
 use crate::finding::entry_keys;
 use crate::repeated::keys_repeat;
-use am_traits::Base;
+use base_trait::Base;
 use calculus::refusals::NAMED_TWICE;
 use calculus::{Checked, List, Name, RelKey, Utility};
 use std::alloc::Global;
@@ -25,7 +25,7 @@ use std::alloc::Global;
 /// The tree of a `destroy` of these keys, where none stands twice.
 fn destruction(alloc: Global, keys: Vec<RelKey>) -> Result<Checked, CheckFault>
     ensures said { Says (λ tree. (differ_by same_key keys.items ≡ true) × (tree ≡ ForUtilities (utility.Destroy keys.items))) (λ number. (differ_by same_key keys.items ≡ false) × (number ≡ 17)) result }
-    ensures no_fault { (told : Option Db) (before now : ℕ) → now ≡ before → IsCaused told before now result }
+    ensures no_fault { (known : Option Db) (before now : ℕ) → now ≡ before → IsCaused known before now result }
 {
     match keys_repeat(alloc, &keys) {
         Ok(true) => {
@@ -49,7 +49,7 @@ pub(crate) fn destroyed<B: Base>(
     user: &Name,
     names: &[Name],
 ) -> Result<Checked, CheckFault>
-    ensures told { (db : Db) (ranges : Ranges) → B.schema base.old ≡ Some db → name_refusal (scope_of db user.now ranges) (statement.Destroy names.now) ≡ None
+    ensures known { (db : Db) (ranges : Ranges) → B.schema base.old ≡ Some db → name_refusal (scope_of db user.now ranges) (statement.Destroy names.now) ≡ None
         → Serves (scope_of db user.now ranges) (statement.Destroy names.now) result }
     ensures kept { B.database base.new ≡ B.database base.old }
     ensures stays { (s : Db) → B.schema base.old ≡ Some s → B.schema base.new ≡ Some s }

@@ -3,7 +3,7 @@
 ghost use Rattle.std.specs.Prelude.{◌≡◌};
 ghost use Rattle.utility_trees.specs.declared.fault.CheckFault.TheVariants.{Base as OfBase, OutOfMemory as NoMemory};
 
-use am_traits::BaseFault;
+use base_trait::BaseFault;
 use calculus::OutOfMemory;
 
 /// Why a statement has no tree.

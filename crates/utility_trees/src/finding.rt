@@ -1,8 +1,8 @@
 //! What names mean.
 
 ghost use Rattle.std.specs.Prelude.{◌≡◌, ◌≤◌, None, Some, filter_map, length, option_map, IfOk};
-ghost use Rattle.am_traits.specs.Causes.{HasCause};
-ghost use Rattle.am_traits.specs.Told.{known_at};
+ghost use Rattle.base_trait.specs.Causes.{HasCause};
+ghost use Rattle.base_trait.specs.Known.{known_at};
 ghost use Rattle.calculus.specs.Database.{Db};
 ghost use Rattle.calculus.specs.Finding.{found};
 ghost use Rattle.calculus.specs.Keys.{key_of};
@@ -15,7 +15,7 @@ ghost use Rattle.utility_trees.specs.Causes.{HasCheckCause};
 use crate::CheckFault;
 use crate::keys::key_of;
 use crate::lists::push_if;
-use am_traits::{Base, BaseFault};
+use base_trait::{Base, BaseFault};
 use calculus::refusals::NO_RELATION;
 use calculus::{Name, RelInfo, RelKey};
 use quel_names::named;
@@ -29,7 +29,7 @@ pub(crate) fn found<B: Base>(
     user: &Name,
     name: &Name,
 ) -> Result<RelInfo, CheckFault>
-    ensures told { (db : Db) → B.schema base.old ≡ Some db
+    ensures known { (db : Db) → B.schema base.old ≡ Some db
         → Says (λ info. (found db user.now name.now ≡ Some info) × (length info.attrs ≤ 256)) (λ number. found db user.now name.now ≡ None) result }
     ensures kept { B.database base.new ≡ B.database base.old }
     ensures stays { (s : Db) → B.schema base.old ≡ Some s → B.schema base.new ≡ Some s }
@@ -59,7 +59,7 @@ fn key_under<B: Base>(
     owner: &Name,
     name: &Name,
 ) -> Result<Option<RelKey>, BaseFault>
-    ensures told { (db : Db) → B.schema base.old ≡ Some db → IfOk result (λ key. key ≡ option_map (λ info. info.key) (known_at db (key_of owner.now name.now))) }
+    ensures known { (db : Db) → B.schema base.old ≡ Some db → IfOk result (λ key. key ≡ option_map (λ info. info.key) (known_at db (key_of owner.now name.now))) }
     ensures kept { B.database base.new ≡ B.database base.old }
     ensures stays { (s : Db) → B.schema base.old ≡ Some s → B.schema base.new ≡ Some s }
     ensures asked { (b : B) → B.asked b base.old → B.asked b base.new }
@@ -79,7 +79,7 @@ fn entry_key<B: Base>(
     dba: &Name,
     name: &Name,
 ) -> Result<Option<RelKey>, BaseFault>
-    ensures told { (db : Db) (ranges : Ranges) → B.schema base.old ≡ Some db → dba.now ≡ db.dba
+    ensures known { (db : Db) (ranges : Ranges) → B.schema base.old ≡ Some db → dba.now ≡ db.dba
         → IfOk result (λ key. key ≡ entry_named (scope_of db user.now ranges) name.now) }
     ensures kept { B.database base.new ≡ B.database base.old }
     ensures stays { (s : Db) → B.schema base.old ≡ Some s → B.schema base.new ≡ Some s }
@@ -100,7 +100,7 @@ pub(crate) fn entry_keys<B: Base>(
     dba: &Name,
     names: &[Name],
 ) -> Result<Vec<RelKey>, BaseFault>
-    ensures told { (db : Db) (ranges : Ranges) → B.schema base.old ≡ Some db → dba.now ≡ db.dba
+    ensures known { (db : Db) (ranges : Ranges) → B.schema base.old ≡ Some db → dba.now ≡ db.dba
         → IfOk result (λ keys. keys.items ≡ filter_map (entry_named (scope_of db user.now ranges)) names.now) }
     ensures kept { B.database base.new ≡ B.database base.old }
     ensures stays { (s : Db) → B.schema base.old ≡ Some s → B.schema base.new ≡ Some s }

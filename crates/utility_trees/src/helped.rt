@@ -1,7 +1,7 @@
 //! What `help` asks for: rows of the catalogues.
 
 ghost use Rattle.std.specs.Prelude.{◌≡◌, ◌++◌, ◌∷◌, [], ℕ, All, Some, None, Ok, Err, take, drop, map, IfOk, IsTrue, OnOk};
-ghost use Rattle.am_traits.specs.Causes.{HasCause};
+ghost use Rattle.base_trait.specs.Causes.{HasCause};
 ghost use Rattle.calculus.specs.declared.request.Checked.TheVariants.{Answer};
 ghost use Rattle.calculus.specs.declared.statement.Statement.TheVariants as statement;
 ghost use Rattle.calculus.specs.Catalogue.{relation_attrs, attribute_attrs};
@@ -22,7 +22,7 @@ use crate::CheckFault;
 use crate::asked::{answer, unsorted};
 use crate::finding::found;
 use crate::keys::{catalogue_key, name_of};
-use am_traits::{Base, BaseFault};
+use base_trait::{Base, BaseFault};
 use calculus::{
     Boxed, Chars, Checked, Domain, Kind, Name, OutOfMemory, QQual, QTerm, RelInfo, RelKey, Target,
 };
@@ -189,7 +189,7 @@ fn help_on(alloc: Global, dba: &Name, info: &RelInfo) -> Result<Checked, OutOfMe
 
 /// What asks for the entries of the user and of the administrator.
 fn helped_on_all<B: Base>(alloc: Global, base: &mut B, user: &Name) -> Result<Checked, BaseFault>
-    ensures told { (db : Db) (ranges : Ranges) → B.schema base.old ≡ Some db → IfOk result (λ tree. tree ≡ Answer (help_on_all (scope_of db user.now ranges) ∷ [])) }
+    ensures known { (db : Db) (ranges : Ranges) → B.schema base.old ≡ Some db → IfOk result (λ tree. tree ≡ Answer (help_on_all (scope_of db user.now ranges) ∷ [])) }
     ensures kept { B.database base.new ≡ B.database base.old }
     ensures stays { (s : Db) → B.schema base.old ≡ Some s → B.schema base.new ≡ Some s }
     ensures asked { (b : B) → B.asked b base.old → B.asked b base.new }
@@ -203,7 +203,7 @@ fn helped_on_all<B: Base>(alloc: Global, base: &mut B, user: &Name) -> Result<Ch
 
 /// What asks for the attributes of what is known.
 fn helped_on<B: Base>(alloc: Global, base: &mut B, info: &RelInfo) -> Result<Checked, BaseFault>
-    ensures told { (s : Scope) → B.schema base.old ≡ Some s.db → IfOk result (λ tree. tree ≡ Answer (help_on s (Some info.now) ∷ [])) }
+    ensures known { (s : Scope) → B.schema base.old ≡ Some s.db → IfOk result (λ tree. tree ≡ Answer (help_on s (Some info.now) ∷ [])) }
     ensures kept { B.database base.new ≡ B.database base.old }
     ensures stays { (s : Db) → B.schema base.old ≡ Some s → B.schema base.new ≡ Some s }
     ensures asked { (b : B) → B.asked b base.old → B.asked b base.new }
@@ -222,7 +222,7 @@ fn helped_on_name<B: Base>(
     user: &Name,
     name: &Name,
 ) -> Result<Checked, CheckFault>
-    ensures told { (db : Db) (ranges : Ranges) → B.schema base.old ≡ Some db → name_refusal (scope_of db user.now ranges) (statement.Help (Some name.now)) ≡ None
+    ensures known { (db : Db) (ranges : Ranges) → B.schema base.old ≡ Some db → name_refusal (scope_of db user.now ranges) (statement.Help (Some name.now)) ≡ None
         → Serves (scope_of db user.now ranges) (statement.Help (Some name.now)) result }
     ensures kept { B.database base.new ≡ B.database base.old }
     ensures stays { (s : Db) → B.schema base.old ≡ Some s → B.schema base.new ≡ Some s }
@@ -246,7 +246,7 @@ pub(crate) fn helped<B: Base>(
     user: &Name,
     name: &Option<Name>,
 ) -> Result<Checked, CheckFault>
-    ensures told { (db : Db) (ranges : Ranges) → B.schema base.old ≡ Some db → name_refusal (scope_of db user.now ranges) (statement.Help name.now) ≡ None
+    ensures known { (db : Db) (ranges : Ranges) → B.schema base.old ≡ Some db → name_refusal (scope_of db user.now ranges) (statement.Help name.now) ≡ None
         → Serves (scope_of db user.now ranges) (statement.Help name.now) result }
     ensures kept { B.database base.new ≡ B.database base.old }
     ensures stays { (s : Db) → B.schema base.old ≡ Some s → B.schema base.new ≡ Some s }

@@ -13,8 +13,8 @@ mod lists;
 mod places;
 mod printed;
 mod repeated;
-mod serving;
 mod stored;
+mod without_query;
 
 pub use fault::CheckFault;
-pub use serving::{is_served, served};
+pub use without_query::{needs_no_query, tree_without_query};

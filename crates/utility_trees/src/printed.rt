@@ -16,7 +16,7 @@ ghost use Rattle.utility_trees.specs.Serving.{Serves};
 use crate::CheckFault;
 use crate::asked::whole;
 use crate::finding::found;
-use am_traits::Base;
+use base_trait::Base;
 use calculus::{Asked, Checked, List, Name};
 use memory::push;
 use std::alloc::Global;
@@ -28,7 +28,7 @@ fn whole_named<B: Base>(
     user: &Name,
     name: &Name,
 ) -> Result<Asked, CheckFault>
-    ensures told { (db : Db) → B.schema base.old ≡ Some db
+    ensures known { (db : Db) → B.schema base.old ≡ Some db
         → Says (λ asked. asked ≡ whole (found db user.now name.now)) (λ number. found db user.now name.now ≡ None) result }
     ensures kept { B.database base.new ≡ B.database base.old }
     ensures stays { (s : Db) → B.schema base.old ≡ Some s → B.schema base.new ≡ Some s }
@@ -48,7 +48,7 @@ fn wholes<B: Base>(
     user: &Name,
     names: &[Name],
 ) -> Result<Vec<Asked>, CheckFault>
-    ensures told { (db : Db) → B.schema base.old ≡ Some db
+    ensures known { (db : Db) → B.schema base.old ≡ Some db
         → Says (λ asked. asked.items ≡ map (λ name. whole (found db user.now name)) names.now) (λ number. list_all (λ name. is_some (found db user.now name)) names.now ≡ false) result }
     ensures kept { B.database base.new ≡ B.database base.old }
     ensures stays { (s : Db) → B.schema base.old ≡ Some s → B.schema base.new ≡ Some s }
@@ -70,7 +70,7 @@ pub(crate) fn printed<B: Base>(
     user: &Name,
     names: &[Name],
 ) -> Result<Checked, CheckFault>
-    ensures told { (db : Db) (ranges : Ranges) → B.schema base.old ≡ Some db → name_refusal (scope_of db user.now ranges) (statement.Print names.now) ≡ None
+    ensures known { (db : Db) (ranges : Ranges) → B.schema base.old ≡ Some db → name_refusal (scope_of db user.now ranges) (statement.Print names.now) ≡ None
         → Serves (scope_of db user.now ranges) (statement.Print names.now) result }
     ensures kept { B.database base.new ≡ B.database base.old }
     ensures stays { (s : Db) → B.schema base.old ≡ Some s → B.schema base.new ≡ Some s }

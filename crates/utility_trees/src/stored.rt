@@ -1,12 +1,12 @@
 //! What `modify` and `index` ask for.
 
 ghost use Rattle.std.specs.Prelude.{◌≡◌, ◌≤◌, ◌∷◌, [], Some, None, Ok, Err, length, map, IfOk};
-ghost use Rattle.am_traits.specs.Causes.{HasCause};
+ghost use Rattle.base_trait.specs.Causes.{HasCause};
 ghost use Rattle.calculus.specs.declared.request.Checked.TheVariants.{Utility as ForUtilities};
 ghost use Rattle.calculus.specs.declared.request.Utility.TheVariants as utility;
 ghost use Rattle.calculus.specs.declared.statement.Statement.TheVariants as statement;
 ghost use Rattle.calculus.specs.Database.{Db};
-ghost use Rattle.calculus.specs.Replacement.{first_cause};
+ghost use Rattle.calculus.specs.Replacement.{first_refusal};
 ghost use Rattle.calculus.specs.Structures.{is_keyed};
 ghost use Rattle.quel_meaning.specs.Causes.{repeats};
 ghost use Rattle.quel_meaning.specs.Naming.{name_refusal};
@@ -22,7 +22,7 @@ use crate::CheckFault;
 use crate::finding::found;
 use crate::places::places_of;
 use crate::repeated::names_repeat;
-use am_traits::{Base, BaseFault};
+use base_trait::{Base, BaseFault};
 use calculus::refusals::{NAME_IN_USE, NAMED_TWICE, PAST_LIMIT};
 use calculus::{Checked, List, Name, OutOfMemory, RelInfo, Spec, TryCopy, Utility};
 use memory::{alone, both};
@@ -84,7 +84,7 @@ pub(crate) fn modified<B: Base>(
     to: Spec,
     keys: &[Name],
 ) -> Result<Checked, CheckFault>
-    ensures told { (db : Db) (ranges : Ranges) → B.schema base.old ≡ Some db → name_refusal (scope_of db user.now ranges) (statement.Modify rel.now to keys.now) ≡ None
+    ensures known { (db : Db) (ranges : Ranges) → B.schema base.old ≡ Some db → name_refusal (scope_of db user.now ranges) (statement.Modify rel.now to keys.now) ≡ None
         → Serves (scope_of db user.now ranges) (statement.Modify rel.now to keys.now) result }
     ensures kept { B.database base.new ≡ B.database base.old }
     ensures stays { (s : Db) → B.schema base.old ≡ Some s → B.schema base.new ≡ Some s }
@@ -105,15 +105,15 @@ pub(crate) fn modified<B: Base>(
 }
 
 /// What refuses an index of the user's with this name on these keys.
-fn index_cause<B: Base>(
+fn index_refusal<B: Base>(
     alloc: Global,
     base: &mut B,
     user: &Name,
     name: &Name,
     keys: &[Name],
 ) -> Result<Option<u8>, BaseFault>
-    ensures told { (db : Db) → B.schema base.old ≡ Some db
-        → IfOk result (λ n. n ≡ first_cause ((17, repeats keys.now) ∷ (14, is_full db) ∷ (15, is_taken db user.now name.now) ∷ [])) }
+    ensures known { (db : Db) → B.schema base.old ≡ Some db
+        → IfOk result (λ n. n ≡ first_refusal ((17, repeats keys.now) ∷ (14, is_full db) ∷ (15, is_taken db user.now name.now) ∷ [])) }
     ensures kept { B.database base.new ≡ B.database base.old }
     ensures stays { (s : Db) → B.schema base.old ≡ Some s → B.schema base.new ≡ Some s }
     ensures asked { (b : B) → B.asked b base.old → B.asked b base.new }
@@ -155,8 +155,8 @@ fn index_found<B: Base>(
     name: &Name,
     keys: &[Name],
 ) -> Result<Checked, CheckFault>
-    ensures told { (db : Db) (ranges : Ranges) → B.schema base.old ≡ Some db → name_refusal (scope_of db user.now ranges) (statement.Index rel.now name.now keys.now) ≡ None
-        → first_cause ((17, repeats keys.now) ∷ (14, is_full db) ∷ (15, is_taken db user.now name.now) ∷ []) ≡ None
+    ensures known { (db : Db) (ranges : Ranges) → B.schema base.old ≡ Some db → name_refusal (scope_of db user.now ranges) (statement.Index rel.now name.now keys.now) ≡ None
+        → first_refusal ((17, repeats keys.now) ∷ (14, is_full db) ∷ (15, is_taken db user.now name.now) ∷ []) ≡ None
         → Serves (scope_of db user.now ranges) (statement.Index rel.now name.now keys.now) result }
     ensures kept { B.database base.new ≡ B.database base.old }
     ensures stays { (s : Db) → B.schema base.old ≡ Some s → B.schema base.new ≡ Some s }
@@ -182,14 +182,14 @@ pub(crate) fn indexed<B: Base>(
     name: &Name,
     keys: &[Name],
 ) -> Result<Checked, CheckFault>
-    ensures told { (db : Db) (ranges : Ranges) → B.schema base.old ≡ Some db → name_refusal (scope_of db user.now ranges) (statement.Index rel.now name.now keys.now) ≡ None
+    ensures known { (db : Db) (ranges : Ranges) → B.schema base.old ≡ Some db → name_refusal (scope_of db user.now ranges) (statement.Index rel.now name.now keys.now) ≡ None
         → Serves (scope_of db user.now ranges) (statement.Index rel.now name.now keys.now) result }
     ensures kept { B.database base.new ≡ B.database base.old }
     ensures stays { (s : Db) → B.schema base.old ≡ Some s → B.schema base.new ≡ Some s }
     ensures asked { (b : B) → B.asked b base.old → B.asked b base.new }
     ensures cause { HasCheckCause (B.database base.old) (B.faults base.old) (B.faults base.new) result }
 {
-    match index_cause(alloc, base, user, name, keys)? {
+    match index_refusal(alloc, base, user, name, keys)? {
         Some(number) => Err(CheckFault::No(number)),
         None => index_found(alloc, base, user, rel, name, keys),
     }

@@ -5,12 +5,12 @@ use Rattle.std.specs.List.{list_all, list_any}
 use Rattle.calculus.specs.declared.query.RelKey.{RelKey}
 use Rattle.calculus.specs.declared.query.QQual.{QQual}
 use Rattle.calculus.specs.declared.schema.Permit.{Permit}
-use Rattle.calculus.specs.Who.{Asker, asker_of, asks}
+use Rattle.calculus.specs.Who.{Asker, asker_of, as_user}
 use Rattle.calculus.specs.Database.{Db, permits_on}
 use Rattle.calculus.specs.Rights.{Right, covers, needs_none, permitted}
 use Rattle.view_text.specs.Halves.{any_of}
 use Rattle.view_text.specs.Scoped.{is_qual_within}
-use Rattle.view_text.specs.TextOf.{permit_condition, cut}
+use Rattle.view_text.specs.ExpansionOf.{permit_condition, restriction}
 use Rattle.view_text.proofs.Scope.{condition_within}
 use Rattle.view_text.proofs.Within.{both_true}
 use Rattle.view_text.proofs.JoinedWithin.{any_within}
@@ -71,29 +71,29 @@ one_within ps asker right attrs (Some c) h = ap (λ b. b && true) (some_within p
 
 -- ---- the cut
 
-pub cut_without : (db : Db) (user : List ℕ) (right : Right) (attrs : List ℕ) (key : RelKey) → needs_none db (asker_of user) right key ≡ true → [] ≡ cut db (asks user) right attrs key
+pub cut_without : (db : Db) (user : List ℕ) (right : Right) (attrs : List ℕ) (key : RelKey) → needs_none db (asker_of user) right key ≡ true → [] ≡ restriction db (as_user user) right attrs key
 cut_without db user right attrs key h =
     sym (ap (λ b. elim b as (λ x. List QQual) [ true ↦ [] | false ↦ any_of (covering_conditions (permits_on db key) (asker_of user) right attrs) ∷ [] ]) h)
 
-pub cut_with : (db : Db) (user : List ℕ) (right : Right) (attrs : List ℕ) (key : RelKey) (c : QQual) → needs_none db (asker_of user) right key ≡ false
-    → Some c ≡ one_of (covering_conditions (permits_on db key) (asker_of user) right attrs) → c ∷ [] ≡ cut db (asks user) right attrs key
-cut_with db user right attrs key c h o =
+pub restriction_with : (db : Db) (user : List ℕ) (right : Right) (attrs : List ℕ) (key : RelKey) (c : QQual) → needs_none db (asker_of user) right key ≡ false
+    → Some c ≡ one_of (covering_conditions (permits_on db key) (asker_of user) right attrs) → c ∷ [] ≡ restriction db (as_user user) right attrs key
+restriction_with db user right attrs key c h o =
     ap (λ q. q ∷ []) (one_is (covering_conditions (permits_on db key) (asker_of user) right attrs) c o)
     ∙ sym (ap (λ b. elim b as (λ x. List QQual) [ true ↦ [] | false ↦ any_of (covering_conditions (permits_on db key) (asker_of user) right attrs) ∷ [] ]) h)
 
 pub permitted_without : (db : Db) (user : List ℕ) (right : Right) (attrs : List ℕ) (key : RelKey) → needs_none db (asker_of user) right key ≡ true
-    → permitted db (asks user) right attrs key ≡ true
+    → permitted db (as_user user) right attrs key ≡ true
 unfolding permitted
 permitted_without db user right attrs key h = ap (λ b. b || list_any (λ p. covers p (asker_of user) right attrs) (permits_on db key)) h
 
 pub permitted_with : (db : Db) (user : List ℕ) (right : Right) (attrs : List ℕ) (key : RelKey) (c : QQual) → needs_none db (asker_of user) right key ≡ false
-    → Some c ≡ one_of (covering_conditions (permits_on db key) (asker_of user) right attrs) → permitted db (asks user) right attrs key ≡ true
+    → Some c ≡ one_of (covering_conditions (permits_on db key) (asker_of user) right attrs) → permitted db (as_user user) right attrs key ≡ true
 unfolding permitted
 permitted_with db user right attrs key c h o =
     ap (λ b. b || list_any (λ p. covers p (asker_of user) right attrs) (permits_on db key)) h ∙ covered (permits_on db key) (asker_of user) right attrs c o
 
 pub not_permitted : (db : Db) (user : List ℕ) (right : Right) (attrs : List ℕ) (key : RelKey) → needs_none db (asker_of user) right key ≡ false
-    → None ≡ one_of (covering_conditions (permits_on db key) (asker_of user) right attrs) → permitted db (asks user) right attrs key ≡ false
+    → None ≡ one_of (covering_conditions (permits_on db key) (asker_of user) right attrs) → permitted db (as_user user) right attrs key ≡ false
 unfolding permitted
 not_permitted db user right attrs key h o =
     ap (λ b. b || list_any (λ p. covers p (asker_of user) right attrs) (permits_on db key)) h ∙ none_covered (permits_on db key) (asker_of user) right attrs o

@@ -11,10 +11,10 @@ use Rattle.calculus.specs.Who.{Who}
 use Rattle.calculus.specs.Database.{Db, permits_on}
 use Rattle.calculus.specs.Permission.{permitted_within}
 use Rattle.calculus_laws.proofs.Enough.{same_key-exact}
-use Rattle.view_text.specs.declared.text.Text.{Text}
+use Rattle.view_text.specs.declared.expansion.Expansion.{Expansion}
 use Rattle.view_text.specs.Scoped.{is_scoped}
-use Rattle.view_text.specs.TextOf.{text_within}
-use Rattle.view_expand.specs.Found.{IsTextOf, AreTexts, ArePermits}
+use Rattle.view_text.specs.ExpansionOf.{expansion_within}
+use Rattle.view_expand.specs.Found.{IsExpansionOf, AreExpansions, ArePermits}
 
 -- one key and as many levels
 abbrev pub same_pair : RelKey × ℕ → RelKey × ℕ → Bool
@@ -31,54 +31,54 @@ same_pair-exact a b h = go (same_key a.0 b.0) refl (nat_eq a.1 b.1) refl h
     go true e false f h = cc h
     go false e y f h = cc h
 
--- what is looked up is the text of its key
-pub looked_up : (db : Db) (who : Who) (found : List ((RelKey × ℕ) × Text)) (pair : RelKey × ℕ) (text : Text) → lookup (same_pair pair) found ≡ Some text → AreTexts db who found
-    → IsTextOf db who pair.0 pair.1 text
-looked_up db who [] pair text h k = cc h
-looked_up db who (e ∷ found) pair text h k = go (same_pair pair e.0) refl h (λ l. looked_up db who found pair text l k.1)
+-- what is looked up is the expansion of its key
+pub looked_up : (db : Db) (who : Who) (found : List ((RelKey × ℕ) × Expansion)) (pair : RelKey × ℕ) (expansion : Expansion) → lookup (same_pair pair) found ≡ Some expansion → AreExpansions db who found
+    → IsExpansionOf db who pair.0 pair.1 expansion
+looked_up db who [] pair expansion h k = cc h
+looked_up db who (e ∷ found) pair expansion h k = go (same_pair pair e.0) refl h (λ l. looked_up db who found pair expansion l k.1)
   where
-    go : (b : Bool) → same_pair pair e.0 ≡ b → cond b (Some e.1) (lookup (same_pair pair) found) ≡ Some text
-        → (lookup (same_pair pair) found ≡ Some text → IsTextOf db who pair.0 pair.1 text) → IsTextOf db who pair.0 pair.1 text
+    go : (b : Bool) → same_pair pair e.0 ≡ b → cond b (Some e.1) (lookup (same_pair pair) found) ≡ Some expansion
+        → (lookup (same_pair pair) found ≡ Some expansion → IsExpansionOf db who pair.0 pair.1 expansion) → IsExpansionOf db who pair.0 pair.1 expansion
     go true same h later =
-        let t : e.1 ≡ text = cc h in
+        let t : e.1 ≡ expansion = cc h in
         let p : pair ≡ e.0 = same_pair-exact pair e.0 same in
-        subst (λ p. IsTextOf db who p.0 p.1 text) (sym p) (subst (IsTextOf db who e.0.0 e.0.1) t k.0)
+        subst (λ p. IsExpansionOf db who p.0 p.1 expansion) (sym p) (subst (IsExpansionOf db who e.0.0 e.0.1) t k.0)
     go false same h later = later h
 
 -- it is scoped where all are
-pub scoped_up : (found : List ((RelKey × ℕ) × Text)) (pair : RelKey × ℕ) (text : Text) → lookup (same_pair pair) found ≡ Some text → list_all (λ e. is_scoped e.1) found ≡ true → is_scoped text ≡ true
-scoped_up [] pair text h k = cc h
-scoped_up (e ∷ found) pair text h k = go (same_pair pair e.0) h (is_scoped e.1) refl k (scoped_up found pair text)
+pub scoped_up : (found : List ((RelKey × ℕ) × Expansion)) (pair : RelKey × ℕ) (expansion : Expansion) → lookup (same_pair pair) found ≡ Some expansion → list_all (λ e. is_scoped e.1) found ≡ true → is_scoped expansion ≡ true
+scoped_up [] pair expansion h k = cc h
+scoped_up (e ∷ found) pair expansion h k = go (same_pair pair e.0) h (is_scoped e.1) refl k (scoped_up found pair expansion)
   where
-    go : (b : Bool) → cond b (Some e.1) (lookup (same_pair pair) found) ≡ Some text → (s : Bool) → is_scoped e.1 ≡ s → (s && list_all (λ e. is_scoped e.1) found) ≡ true
-        → (lookup (same_pair pair) found ≡ Some text → list_all (λ e. is_scoped e.1) found ≡ true → is_scoped text ≡ true) → is_scoped text ≡ true
+    go : (b : Bool) → cond b (Some e.1) (lookup (same_pair pair) found) ≡ Some expansion → (s : Bool) → is_scoped e.1 ≡ s → (s && list_all (λ e. is_scoped e.1) found) ≡ true
+        → (lookup (same_pair pair) found ≡ Some expansion → list_all (λ e. is_scoped e.1) found ≡ true → is_scoped expansion ≡ true) → is_scoped expansion ≡ true
     go b h false s k later = cc k
-    go true h true s k later = let t : e.1 ≡ text = cc h in ap is_scoped (sym t) ∙ s
+    go true h true s k later = let t : e.1 ≡ expansion = cc h in ap is_scoped (sym t) ∙ s
     go false h true s k later = later h k
 
--- one more that is the text of its key leaves all so
-pub kept_texts : (db : Db) (who : Who) (found : List ((RelKey × ℕ) × Text)) (pair : RelKey × ℕ) (text : Text) → AreTexts db who found → IsTextOf db who pair.0 pair.1 text
-    → AreTexts db who (insert_entry same_pair found pair text)
-kept_texts db who [] pair text k t = (t, tt)
-kept_texts db who (e ∷ found) pair text k t = go (same_pair pair e.0) refl (kept_texts db who found pair text k.1 t)
+-- one more that is the expansion of its key leaves all so
+pub kept_expansions : (db : Db) (who : Who) (found : List ((RelKey × ℕ) × Expansion)) (pair : RelKey × ℕ) (expansion : Expansion) → AreExpansions db who found → IsExpansionOf db who pair.0 pair.1 expansion
+    → AreExpansions db who (insert_entry same_pair found pair expansion)
+kept_expansions db who [] pair expansion k t = (t, tt)
+kept_expansions db who (e ∷ found) pair expansion k t = go (same_pair pair e.0) refl (kept_expansions db who found pair expansion k.1 t)
   where
-    go : (b : Bool) → same_pair pair e.0 ≡ b → AreTexts db who (insert_entry same_pair found pair text)
-        → AreTexts db who (cond b ((e.0, text) ∷ found) (e ∷ insert_entry same_pair found pair text))
-    go true same later = (subst (λ p. IsTextOf db who p.0 p.1 text) (same_pair-exact pair e.0 same) t, k.1)
+    go : (b : Bool) → same_pair pair e.0 ≡ b → AreExpansions db who (insert_entry same_pair found pair expansion)
+        → AreExpansions db who (cond b ((e.0, expansion) ∷ found) (e ∷ insert_entry same_pair found pair expansion))
+    go true same later = (subst (λ p. IsExpansionOf db who p.0 p.1 expansion) (same_pair-exact pair e.0 same) t, k.1)
     go false same later = (k.0, later)
 
 -- and scoped
-pub kept_scoped : (found : List ((RelKey × ℕ) × Text)) (pair : RelKey × ℕ) (text : Text) → list_all (λ e. is_scoped e.1) found ≡ true → is_scoped text ≡ true
-    → list_all (λ e. is_scoped e.1) (insert_entry same_pair found pair text) ≡ true
-kept_scoped [] pair text k s = ap (λ b. b && true) s
-kept_scoped (e ∷ found) pair text k s = go (same_pair pair e.0) (is_scoped e.1) refl k (λ l. kept_scoped found pair text l s)
+pub kept_scoped : (found : List ((RelKey × ℕ) × Expansion)) (pair : RelKey × ℕ) (expansion : Expansion) → list_all (λ e. is_scoped e.1) found ≡ true → is_scoped expansion ≡ true
+    → list_all (λ e. is_scoped e.1) (insert_entry same_pair found pair expansion) ≡ true
+kept_scoped [] pair expansion k s = ap (λ b. b && true) s
+kept_scoped (e ∷ found) pair expansion k s = go (same_pair pair e.0) (is_scoped e.1) refl k (λ l. kept_scoped found pair expansion l s)
   where
     go : (b : Bool) (c : Bool) → is_scoped e.1 ≡ c → (c && list_all (λ e. is_scoped e.1) found) ≡ true
-        → (list_all (λ e. is_scoped e.1) found ≡ true → list_all (λ e. is_scoped e.1) (insert_entry same_pair found pair text) ≡ true)
-        → list_all (λ e. is_scoped e.1) (cond b ((e.0, text) ∷ found) (e ∷ insert_entry same_pair found pair text)) ≡ true
+        → (list_all (λ e. is_scoped e.1) found ≡ true → list_all (λ e. is_scoped e.1) (insert_entry same_pair found pair expansion) ≡ true)
+        → list_all (λ e. is_scoped e.1) (cond b ((e.0, expansion) ∷ found) (e ∷ insert_entry same_pair found pair expansion)) ≡ true
     go b false e k later = cc k
     go true true e k later = ap (λ b. b && list_all (λ e. is_scoped e.1) found) s ∙ k
-    go false true e' k later = ap (λ b. b && list_all (λ e. is_scoped e.1) (insert_entry same_pair found pair text)) e' ∙ later k
+    go false true e' k later = ap (λ b. b && list_all (λ e. is_scoped e.1) (insert_entry same_pair found pair expansion)) e' ∙ later k
 
 -- the permits that are looked up are those of the key
 pub permits_up : (db : Db) (found : List (RelKey × List Permit)) (key : RelKey) (permits : List Permit) → lookup (same_key key) found ≡ Some permits → ArePermits db found → permits ≡ permits_on db key
@@ -108,13 +108,13 @@ pub after : {T A E : Type 0} (P : T → Type 0) (old new made : T) (result : Res
 after {T} {A} {E} P old new made (Ok x) h k p q = subst P (sym h) q
 after {T} {A} {E} P old new made (Err e) h k p q = subst P (sym k) p
 
--- an answer that is the text of a key is so with each of its attributes
-pub answered : {E : Type 0} (db : Db) (who : Who) (key : RelKey) (levels : ℕ) (attrs : List ℕ) (result : Result Text E) → IfOk result (IsTextOf db who key levels)
-    → IfOk result (λ text. text ≡ text_within levels db who key attrs)
-answered {E} db who key levels attrs (Ok text) h = h.is attrs
+-- an answer that is the expansion of a key is so with each of its attributes
+pub answered : {E : Type 0} (db : Db) (who : Who) (key : RelKey) (levels : ℕ) (attrs : List ℕ) (result : Result Expansion E) → IfOk result (IsExpansionOf db who key levels)
+    → IfOk result (λ expansion. expansion ≡ expansion_within levels db who key attrs)
+answered {E} db who key levels attrs (Ok expansion) h = h.is attrs
 answered {E} db who key levels attrs (Err e) h = h
 
-pub answer_permitted : {E : Type 0} (db : Db) (who : Who) (key : RelKey) (levels : ℕ) (attrs : List ℕ) (result : Result Text E) → IfOk result (IsTextOf db who key levels)
+pub answer_permitted : {E : Type 0} (db : Db) (who : Who) (key : RelKey) (levels : ℕ) (attrs : List ℕ) (result : Result Expansion E) → IfOk result (IsExpansionOf db who key levels)
     → OnOk result (permitted_within levels db who key attrs ≡ true)
-answer_permitted {E} db who key levels attrs (Ok text) h = h.permitted attrs
+answer_permitted {E} db who key levels attrs (Ok expansion) h = h.permitted attrs
 answer_permitted {E} db who key levels attrs (Err e) h = h

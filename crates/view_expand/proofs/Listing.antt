@@ -8,19 +8,19 @@ use Rattle.calculus.specs.Lists.{is_any}
 use Rattle.calculus.specs.Used.{used_in_query}
 use Rattle.calculus.specs.Sizes.{Known}
 use Rattle.calculus.specs.Permission.{Reads}
-use Rattle.view_text.specs.declared.text.Text.{Text}
+use Rattle.view_text.specs.declared.expansion.Expansion.{Expansion}
 use Rattle.view_text.specs.Scoped.{is_scoped}
-use Rattle.view_text.specs.Texts.{TextSource, used_text, no_text}
-use Rattle.view_expand.specs.Listed.{texts_at, permitted_at, variables_at}
+use Rattle.view_text.specs.Expansions.{ExpansionSource, used_expansion, no_expansion}
+use Rattle.view_expand.specs.Listed.{expansions_at, permitted_at, variables_at}
 use Rattle.view_expand.proofs.Few.{variables_next}
 
 -- ---- one more
 
-pub texts_step : (source : TextSource) (q : Query) (n : ℕ) (key : RelKey) (rest keys : List RelKey) (made all now : List Text) (text : Text) → rest ≡ key ∷ keys
-    → text ≡ used_text source key (used_in_query n q) → now ≡ made ++ text ∷ [] → made ++ texts_at source q n rest ≡ all → now ++ texts_at source q (n + 1) keys ≡ all
-texts_step source q n key rest keys made all now text r t m h =
-    ap (λ ts. ts ++ texts_at source q (n + 1) keys) m ∙ append_assoc made (text ∷ []) (texts_at source q (n + 1) keys)
-    ∙ ap (λ t. made ++ t ∷ texts_at source q (n + 1) keys) t ∙ sym (ap (λ ks. made ++ texts_at source q n ks) r) ∙ h
+pub expansions_step : (source : ExpansionSource) (q : Query) (n : ℕ) (key : RelKey) (rest keys : List RelKey) (made all now : List Expansion) (expansion : Expansion) → rest ≡ key ∷ keys
+    → expansion ≡ used_expansion source key (used_in_query n q) → now ≡ made ++ expansion ∷ [] → made ++ expansions_at source q n rest ≡ all → now ++ expansions_at source q (n + 1) keys ≡ all
+expansions_step source q n key rest keys made all now expansion r t m h =
+    ap (λ ts. ts ++ expansions_at source q (n + 1) keys) m ∙ append_assoc made (expansion ∷ []) (expansions_at source q (n + 1) keys)
+    ∙ ap (λ t. made ++ t ∷ expansions_at source q (n + 1) keys) t ∙ sym (ap (λ ks. made ++ expansions_at source q n ks) r) ∙ h
 
 one_asked : (b : Bool) (p : ℕ × RelKey → Bool) (x : ℕ × RelKey) (xs : List (ℕ × RelKey)) → list_all p (cond b (x ∷ xs) xs) ≡ (cond b (p x) true && list_all p xs)
 one_asked true p x xs = refl
@@ -69,10 +69,10 @@ few_here known q n key rest keys r h used =
 
 -- ---- used or not
 
-pub none_used : (source : TextSource) (key : RelKey) (attrs : List ℕ) → attrs ≡ [] → no_text ≡ used_text source key attrs
-none_used source key attrs h = sym (ap (used_text source key) h)
+pub none_used : (source : ExpansionSource) (key : RelKey) (attrs : List ℕ) → attrs ≡ [] → no_expansion ≡ used_expansion source key attrs
+none_used source key attrs h = sym (ap (used_expansion source key) h)
 
-pub some_used : (source : TextSource) (key : RelKey) (attrs : List ℕ) → is_any attrs ≡ true → source key attrs ≡ used_text source key attrs
+pub some_used : (source : ExpansionSource) (key : RelKey) (attrs : List ℕ) → is_any attrs ≡ true → source key attrs ≡ used_expansion source key attrs
 some_used source key [] h = cc h
 some_used source key (a ∷ attrs) h = refl
 
@@ -80,10 +80,10 @@ later_true : (b x y : Bool) → (x ≡ true → y ≡ true) → (b && x) ≡ tru
 later_true true x y f h = f h
 later_true false x y f h = h
 
-pub all_scoped_more : (texts : List Text) (text : Text) → list_all is_scoped texts ≡ true → is_scoped text ≡ true → list_all is_scoped (texts ++ text ∷ []) ≡ true
-all_scoped_more [] text h s = ap (λ b. b && true) s
-all_scoped_more (first ∷ texts) text h s =
-    later_true (is_scoped first) (list_all is_scoped texts) (list_all is_scoped (texts ++ text ∷ [])) (λ k. all_scoped_more texts text k s) h
+pub all_scoped_more : (expansions : List Expansion) (expansion : Expansion) → list_all is_scoped expansions ≡ true → is_scoped expansion ≡ true → list_all is_scoped (expansions ++ expansion ∷ []) ≡ true
+all_scoped_more [] expansion h s = ap (λ b. b && true) s
+all_scoped_more (first ∷ expansions) expansion h s =
+    later_true (is_scoped first) (list_all is_scoped expansions) (list_all is_scoped (expansions ++ expansion ∷ [])) (λ k. all_scoped_more expansions expansion k s) h
 
 pub any_where_some : (attrs : List ℕ) → ¬ (length attrs ≡ 0) → is_any attrs ≡ true
 any_where_some [] h = absurd (h refl)

@@ -18,11 +18,11 @@ use Rattle.calculus.specs.Used.{used_vars}
 use Rattle.calculus.specs.Sizes.{range_measure, measure_within, query_measure}
 use Rattle.calculus.specs.Permission.{vars_permitted, range_permitted, permitted_within}
 use Rattle.calculus_laws.proofs.ViewAnswer.{ranged}
-use Rattle.am_traits.specs.Told.{query_at}
-use Rattle.view_text.specs.declared.text.Text.{Text}
-use Rattle.view_text.specs.Texts.{query_texts}
-use Rattle.view_text.specs.TextOf.{cut, kept_text, rows_text, range_text, view_text, past_text, text_within}
-use Rattle.view_expand.specs.Found.{IsTextOf}
+use Rattle.base_trait.specs.Known.{query_at}
+use Rattle.view_text.specs.declared.expansion.Expansion.{Expansion}
+use Rattle.view_text.specs.Expansions.{query_expansions}
+use Rattle.view_text.specs.ExpansionOf.{restriction, kept_expansion, rows_expansion, range_expansion, view_text, past_expansion, expansion_within}
+use Rattle.view_expand.specs.Found.{IsExpansionOf}
 
 -- ---- a view
 
@@ -42,13 +42,13 @@ stands db d key q h = go (view_at db key) refl h
 next_level : (levels : ℕ) → 0 < levels → levels ≡ suc (levels - 1)
 next_level levels h = omega arith
 
-pub text_of_view : (levels : ℕ) (db : Db) → IsDatabase db → (who : Who) (key : RelKey) (attrs : List ℕ) (q : Query) → 0 < levels → Some q ≡ query_at db key
-    → rows_text (query_texts (text_within (levels - 1) db who) q) q ≡ text_within levels db who key attrs
-text_of_view levels db d who key attrs q h e =
+pub expansion_of_view : (levels : ℕ) (db : Db) → IsDatabase db → (who : Who) (key : RelKey) (attrs : List ℕ) (q : Query) → 0 < levels → Some q ≡ query_at db key
+    → rows_expansion (query_expansions (expansion_within (levels - 1) db who) q) q ≡ expansion_within levels db who key attrs
+expansion_of_view levels db d who key attrs q h e =
     let s = stands db d key q e in
-    ap (λ q. rows_text (query_texts (text_within (levels - 1) db who) q) q) (sym s.is)
-    ∙ sym (ap (range_text (view_text (text_within (levels - 1) db who)) db who key attrs) s.there)
-    ∙ ap (λ n. text_within n db who key attrs) (sym (next_level levels h))
+    ap (λ q. rows_expansion (query_expansions (expansion_within (levels - 1) db who) q) q) (sym s.is)
+    ∙ sym (ap (range_expansion (view_text (expansion_within (levels - 1) db who)) db who key attrs) s.there)
+    ∙ ap (λ n. expansion_within n db who key attrs) (sym (next_level levels h))
 
 pub permitted_of_view : (levels : ℕ) (db : Db) → IsDatabase db → (who : Who) (key : RelKey) (attrs : List ℕ) (q : Query) → 0 < levels → Some q ≡ query_at db key
     → vars_permitted (permitted_within (levels - 1) db who) q (used_vars q) ≡ permitted_within levels db who key attrs
@@ -92,22 +92,22 @@ few_listed db d key q e =
 
 -- ---- no view
 
-pub text_of_kept : (levels : ℕ) (db : Db) (who : Who) (key : RelKey) (attrs : List ℕ) → None ≡ query_at db key
-    → kept_text (cut db who Retrieve attrs key) key ≡ text_within levels db who key attrs
+pub expansion_of_kept : (levels : ℕ) (db : Db) (who : Who) (key : RelKey) (attrs : List ℕ) → None ≡ query_at db key
+    → kept_expansion (restriction db who Retrieve attrs key) key ≡ expansion_within levels db who key attrs
 unfolding range_at
-text_of_kept levels db who key attrs h = levelled levels
+expansion_of_kept levels db who key attrs h = levelled levels
   where
-    go : (f : View → Text) (r : Option Relation) (v : Option View) (c : Option Relation) → None ≡ option_map (λ v. v.query) v
-        → kept_text (cut db who Retrieve attrs key) key
-        ≡ range_text f db who key attrs (elim r as (λ x. Option Range) [ Some relation ↦ Some (Kept relation) | None ↦ elim v as (λ x. Option Range) [ Some view ↦ Some (Viewed view) | None ↦ option_map Kept c ] ])
+    go : (f : View → Expansion) (r : Option Relation) (v : Option View) (c : Option Relation) → None ≡ option_map (λ v. v.query) v
+        → kept_expansion (restriction db who Retrieve attrs key) key
+        ≡ range_expansion f db who key attrs (elim r as (λ x. Option Range) [ Some relation ↦ Some (Kept relation) | None ↦ elim v as (λ x. Option Range) [ Some view ↦ Some (Viewed view) | None ↦ option_map Kept c ] ])
     go f (Some r) v c h = refl
     go f None (Some v) c h = absurd (cc h)
     go f None None None h = refl
     go f None None (Some r) h = refl
 
-    levelled : (n : ℕ) → kept_text (cut db who Retrieve attrs key) key ≡ text_within n db who key attrs
-    levelled zero = go (λ view. past_text) (relation_at db key) (view_at db key) (catalogue_at db key) h
-    levelled (suc n) = go (view_text (text_within n db who)) (relation_at db key) (view_at db key) (catalogue_at db key) h
+    levelled : (n : ℕ) → kept_expansion (restriction db who Retrieve attrs key) key ≡ expansion_within n db who key attrs
+    levelled zero = go (λ view. past_expansion) (relation_at db key) (view_at db key) (catalogue_at db key) h
+    levelled (suc n) = go (view_text (expansion_within n db who)) (relation_at db key) (view_at db key) (catalogue_at db key) h
 
 pub permitted_of_kept : (levels : ℕ) (db : Db) (who : Who) (key : RelKey) (attrs : List ℕ) → None ≡ query_at db key
     → permitted db who Retrieve attrs key ≡ permitted_within levels db who key attrs
@@ -134,9 +134,9 @@ vars_is (Query' vars marks targets qual) = refl
 
 -- ---- a view, as it is kept
 
-pub is_text_of : (levels : ℕ) (db : Db) → IsDatabase db → (who : Who) (key : RelKey) (q : Query) → 0 < levels → Some q ≡ query_at db key → (text : Text)
-    → text ≡ rows_text (query_texts (text_within (levels - 1) db who) q) q → vars_permitted (permitted_within (levels - 1) db who) q (used_vars q) ≡ true → IsTextOf db who key levels text
-is_text_of levels db d who key q h e text t p = record {
-  is = λ attrs. t ∙ text_of_view levels db d who key attrs q h e;
+pub is_expansion_of : (levels : ℕ) (db : Db) → IsDatabase db → (who : Who) (key : RelKey) (q : Query) → 0 < levels → Some q ≡ query_at db key → (expansion : Expansion)
+    → expansion ≡ rows_expansion (query_expansions (expansion_within (levels - 1) db who) q) q → vars_permitted (permitted_within (levels - 1) db who) q (used_vars q) ≡ true → IsExpansionOf db who key levels expansion
+is_expansion_of levels db d who key q h e expansion t p = record {
+  is = λ attrs. t ∙ expansion_of_view levels db d who key attrs q h e;
   permitted = λ attrs. sym (permitted_of_view levels db d who key attrs q h e) ∙ p;
 }

@@ -5,7 +5,7 @@ use Rattle.calculus.specs.declared.schema.Permit.{Permit}
 use Rattle.calculus.specs.Who.{Asker}
 use Rattle.calculus.specs.Rights.{Right, covers}
 use Rattle.view_text.specs.Halves.{any_of}
-use Rattle.view_text.specs.TextOf.{permit_condition}
+use Rattle.view_text.specs.ExpansionOf.{permit_condition}
 
 -- the conditions of those among these permits that allow one who asks this, with these attributes
 abbrev pub covering_conditions : List Permit → Asker → Right → List ℕ → List QQual

@@ -7,12 +7,12 @@ use Rattle.calculus.specs.Lists.{is_any}
 use Rattle.calculus.specs.Used.{used_in_query}
 use Rattle.calculus.specs.Sizes.{Known}
 use Rattle.calculus.specs.Permission.{Reads}
-use Rattle.view_text.specs.declared.text.Text.{Text}
-use Rattle.view_text.specs.Texts.{TextSource, used_text}
+use Rattle.view_text.specs.declared.expansion.Expansion.{Expansion}
+use Rattle.view_text.specs.Expansions.{ExpansionSource, used_expansion}
 
 -- their texts
-abbrev pub texts_at : TextSource → Query → ℕ → List RelKey → List Text
-texts_at source q n keys = map (λ p. used_text source p.1 (used_in_query p.0 q)) (enumerate_from n keys)
+abbrev pub expansions_at : ExpansionSource → Query → ℕ → List RelKey → List Expansion
+expansions_at source q n keys = map (λ p. used_expansion source p.1 (used_in_query p.0 q)) (enumerate_from n keys)
 
 -- whether each that is used may be read
 abbrev pub permitted_at : Reads → Query → ℕ → List RelKey → Bool

@@ -1,10 +1,10 @@
-//! What was found in a database: texts of views, and permits.
+//! What was found in a database: expansions of views, and permits.
 
 ghost use Rattle.std.specs.Prelude.{◌≡◌, true, IfOk, IfSome, OnOk};
 ghost use Rattle.std.specs.List.{list_all};
 ghost use Rattle.calculus.specs.Database.{Db, permits_on};
 ghost use Rattle.calculus.specs.Who.{Who};
-ghost use Rattle.view_expand.specs.Found.{IsFound, IsTextOf, nothing_found};
+ghost use Rattle.view_expand.specs.Found.{IsFound, IsExpansionOf, nothing_found};
 ghost use Rattle.view_text.specs.Scoped.{is_scoped};
 
 use calculus::{List, OutOfMemory, Permit, RelKey, TryCopy};
@@ -12,26 +12,26 @@ use indexmap::IndexMap;
 use memory::both;
 use std::alloc::Global;
 use std::marker::Model;
-use view_text::Text;
+use view_text::Expansion;
 
-/// The texts of views that were found in a database for one who asks, each by the view's key and by the
+/// The expansions of views that were found in a database for one who asks, each by the view's key and by the
 /// levels that it goes through, so that each is made once; and permits, by the key that they stand on, so
 /// that they are asked for once.
-pub struct TextsFound {
-    texts: IndexMap<(RelKey, u8), Text>,
+pub struct ExpansionsFound {
+    expansions: IndexMap<(RelKey, u8), Expansion>,
     permits: IndexMap<RelKey, List<Permit>>,
 }
 
-impl Drop for TextsFound {
+impl Drop for ExpansionsFound {
     fn drop(self) {
         let Self {
-            texts: _,
+            expansions: _,
             permits: _,
         } = self;
     }
 }
 
-impl Model for TextsFound {
+impl Model for ExpansionsFound {
     ghost use Rattle.std.specs.Prelude.{◌≡◌, true};
     ghost use Rattle.std.specs.Coded.{codes};
     ghost use Rattle.std.specs.List.{list_all};
@@ -44,20 +44,20 @@ impl Model for TextsFound {
 
     ghost coded = { Prim.hlevel (codes, quals.the_row.coded, terms.the_row.coded) };
 
-    ghost view = { λ t. record { texts = t.texts.entries; permits = t.permits.entries } };
+    ghost view = { λ t. record { expansions = t.expansions.entries; permits = t.permits.entries } };
 
-    ghost invariant = { λ t. list_all (λ e. is_scoped e.1) t.texts.entries ≡ true };
+    ghost invariant = { λ t. list_all (λ e. is_scoped e.1) t.expansions.entries ≡ true };
 }
 
 /// A text equal to this one.
-fn copy_of(alloc: Global, text: &Text) -> Result<Text, OutOfMemory>
-    ensures { IfOk result (λ copy. copy ≡ text.now) }
+fn copy_of(alloc: Global, expansion: &Expansion) -> Result<Expansion, OutOfMemory>
+    ensures { IfOk result (λ copy. copy ≡ expansion.now) }
 {
-    let vars = text.vars.copy(alloc);
-    let terms = text.terms.copy(alloc);
-    let conditions = text.conditions.copy(alloc);
+    let vars = expansion.vars.copy(alloc);
+    let terms = expansion.terms.copy(alloc);
+    let conditions = expansion.conditions.copy(alloc);
     match both(vars, both(terms, conditions)) {
-        Ok((vars, (terms, conditions))) => Ok(Text {
+        Ok((vars, (terms, conditions))) => Ok(Expansion {
             vars,
             terms,
             conditions,
@@ -76,30 +76,30 @@ fn beside(alloc: Global, key: &RelKey, levels: u8) -> Result<(RelKey, u8), OutOf
     }
 }
 
-impl TextsFound {
+impl ExpansionsFound {
     /// Nothing is found yet.
-    pub fn new(alloc: Global) -> TextsFound
+    pub fn new(alloc: Global) -> ExpansionsFound
         ensures { result ≡ nothing_found }
     {
-        TextsFound {
-            texts: IndexMap::new(alloc),
+        ExpansionsFound {
+            expansions: IndexMap::new(alloc),
             permits: IndexMap::new(alloc),
         }
     }
 
-    /// A copy of the text that was found of the key through so many levels; `None` where none was.
-    pub(crate) fn text(
+    /// A copy of the expansion that was found of the key through so many levels; `None` where none was.
+    pub(crate) fn expansion(
         &self,
         alloc: Global,
         key: &RelKey,
         levels: u8,
-    ) -> Result<Option<Text>, OutOfMemory>
-        ensures text { (db : Db) (who : Who) → IsFound db who self.now → IfOk result (λ found. IfSome found (λ text. IsTextOf db who key.now levels text)) }
-        ensures scoped { IfOk result (λ found. IfSome found (λ text. is_scoped text ≡ true)) }
+    ) -> Result<Option<Expansion>, OutOfMemory>
+        ensures expansion { (db : Db) (who : Who) → IsFound db who self.now → IfOk result (λ found. IfSome found (λ expansion. IsExpansionOf db who key.now levels expansion)) }
+        ensures scoped { IfOk result (λ found. IfSome found (λ expansion. is_scoped expansion ≡ true)) }
     {
         let pair = beside(alloc, key, levels)?;
-        match self.texts.get(&pair) {
-            Some(text) => match copy_of(alloc, text) {
+        match self.expansions.get(&pair) {
+            Some(expansion) => match copy_of(alloc, expansion) {
                 Ok(copy) => Ok(Some(copy)),
                 Err(error) => Err(error),
             },
@@ -107,36 +107,36 @@ impl TextsFound {
         }
     }
 
-    /// Keeps the text beside the others. Where there is no room, what was found stays.
-    fn put(&mut self, pair: (RelKey, u8), text: Text) -> Result<(), OutOfMemory>
-        requires { is_scoped text ≡ true }
-        ensures found { (db : Db) (who : Who) → IsFound db who self.old → IsTextOf db who pair.0 pair.1 text → IsFound db who self.new }
+    /// Keeps the expansion beside the others. Where there is no room, what was found stays.
+    fn put(&mut self, pair: (RelKey, u8), expansion: Expansion) -> Result<(), OutOfMemory>
+        requires { is_scoped expansion ≡ true }
+        ensures found { (db : Db) (who : Who) → IsFound db who self.old → IsExpansionOf db who pair.0 pair.1 expansion → IsFound db who self.new }
     {
-        match self.texts.insert(pair, text) {
+        match self.expansions.insert(pair, expansion) {
             Ok(_) => Ok(()),
             Err(_) => Err(OutOfMemory),
         }
     }
 
-    /// Keeps a copy of the text of the key through so many levels, and answers the text.
+    /// Keeps a copy of the expansion of the key through so many levels, and answers the expansion.
     pub(crate) fn kept(
         &mut self,
         alloc: Global,
         key: &RelKey,
         levels: u8,
-        text: Text,
-    ) -> Result<Text, OutOfMemory>
-        requires { is_scoped text ≡ true }
-        ensures text { IfOk result (λ answer. answer ≡ text) }
-        ensures found { (db : Db) (who : Who) → IsFound db who self.old → IsTextOf db who key.now levels text → IsFound db who self.new }
+        expansion: Expansion,
+    ) -> Result<Expansion, OutOfMemory>
+        requires { is_scoped expansion ≡ true }
+        ensures expansion { IfOk result (λ answer. answer ≡ expansion) }
+        ensures found { (db : Db) (who : Who) → IsFound db who self.old → IsExpansionOf db who key.now levels expansion → IsFound db who self.new }
     {
-        let copies = both(beside(alloc, key, levels), copy_of(alloc, &text));
+        let copies = both(beside(alloc, key, levels), copy_of(alloc, &expansion));
         let done = match copies {
             Ok((pair, copy)) => self.put(pair, copy),
             Err(error) => Err(error),
         };
         match done {
-            Ok(()) => Ok(text),
+            Ok(()) => Ok(expansion),
             Err(error) => Err(error),
         }
     }

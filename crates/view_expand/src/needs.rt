@@ -1,7 +1,7 @@
 //! Who needs no permit.
 
 ghost use Rattle.std.specs.Prelude.{◌≡◌, Some, IfOk};
-ghost use Rattle.am_traits.specs.Causes.{HasCause};
+ghost use Rattle.base_trait.specs.Causes.{HasCause};
 ghost use Rattle.calculus.specs.Catalogue.{is_catalogue, is_catalogue_name};
 ghost use Rattle.calculus.specs.Database.{Db};
 ghost use Rattle.calculus.specs.Rights.{needs_none};
@@ -9,7 +9,7 @@ ghost use Rattle.calculus.specs.Who.{asker_of};
 ghost use Rattle.view_expand.specs.Asking.{right_of};
 
 use crate::Right;
-use am_traits::{Base, BaseFault};
+use base_trait::{Base, BaseFault};
 use calculus::{Name, RelKey};
 use std::alloc::Global;
 
@@ -30,7 +30,7 @@ fn has_catalogue_key(key: &RelKey, dba: &Name) -> bool
 
 /// Whether a catalogue stands under the key.
 fn is_catalogue<B: Base>(alloc: Global, base: &mut B, key: &RelKey) -> Result<bool, BaseFault>
-    ensures told { (db : Db) → B.database base.old ≡ Some db → IfOk result (λ b. b ≡ is_catalogue db key.now) }
+    ensures known { (db : Db) → B.database base.old ≡ Some db → IfOk result (λ b. b ≡ is_catalogue db key.now) }
     ensures kept { B.database base.new ≡ B.database base.old }
     ensures stays { (s : Db) → B.schema base.old ≡ Some s → B.schema base.new ≡ Some s }
     ensures asked { (b : B) → B.asked b base.old → B.asked b base.new }
@@ -48,7 +48,7 @@ pub(crate) fn needs_none<B: Base>(
     right: Right,
     key: &RelKey,
 ) -> Result<bool, BaseFault>
-    ensures told { (db : Db) → B.database base.old ≡ Some db → IfOk result (λ none. none ≡ needs_none db (asker_of user.now) (right_of right) key.now) }
+    ensures known { (db : Db) → B.database base.old ≡ Some db → IfOk result (λ none. none ≡ needs_none db (asker_of user.now) (right_of right) key.now) }
     ensures kept { B.database base.new ≡ B.database base.old }
     ensures stays { (s : Db) → B.schema base.old ≡ Some s → B.schema base.new ≡ Some s }
     ensures asked { (b : B) → B.asked b base.old → B.asked b base.new }

@@ -19,7 +19,7 @@ use Rattle.calculus.specs.QueryParts.{vars_of, targets_of, qual_of, query_aggreg
 use Rattle.calculus.specs.Sizes.{Measure, Measures, Known, attr_size, term_size, qual_size, measures, query_measure, range_measure, measure_within, measure_of, plain_measure, variables, expanded_variables, query_size, source_variables}
 use Rattle.calculus.specs.Stored.{Range, Kept, Viewed, range_at}
 use Rattle.calculus.specs.Used.{used_in_query, used_vars}
-use Rattle.am_traits.specs.Told.{query_at}
+use Rattle.base_trait.specs.Known.{query_at}
 use Rattle.view_sizes.proofs.Counting.{counted, one_first, one_more}
 use Rattle.view_sizes.proofs.Viewed.{as_its_query}
 use Rattle.view_sizes.proofs.Stopped.{stopped_le}

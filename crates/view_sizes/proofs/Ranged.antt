@@ -12,7 +12,7 @@ use Rattle.calculus.specs.QueryParts.{vars_of}
 use Rattle.calculus.specs.Sizes.{level_within, level_above, greatest_of, greater_level, range_level, query_level}
 use Rattle.calculus.specs.Stored.{Range, Kept, Viewed, range_at, range_info, info_at}
 use Rattle.calculus.specs.Structures.{is_index}
-use Rattle.am_traits.specs.Told.{known_at, query_at}
+use Rattle.base_trait.specs.Known.{known_at, query_at}
 use Rattle.quel_names.specs.Ranging.{but_index}
 use Rattle.quel_names.proofs.Known.{ranged_if}
 use Rattle.quel_meaning.specs.Passing.{is_too_high}

@@ -1,4 +1,4 @@
--- What is known of views once the views in them are put in.
+-- What is known of views once the views in them are expanded.
 use Rattle.std.proofs.Common.{◌≡◌, refl, sym, ap, ◌∙◌, ℕ, suc, ◌≤◌, nat_le, Bool, true, false, not, ◌||◌, ◌&&◌, cond, List, [], ◌∷◌, ◌++◌, map, length, Option, Some, None, is_some}
 use Rattle.std.specs.List.{find, list_any}
 use Rattle.std.specs.Option.{option_map, option_or}
@@ -17,7 +17,7 @@ use Rattle.calculus.specs.IsDatabase.{IsDatabase}
 use Rattle.calculus.specs.QueryParts.{vars_of}
 use Rattle.calculus.specs.Sizes.{query_measure, range_measure, measure_within}
 use Rattle.calculus.specs.Stored.{Range, Kept, Viewed, range_at}
-use Rattle.am_traits.specs.Told.{query_at}
+use Rattle.base_trait.specs.Known.{query_at}
 use Rattle.quel_meaning.proofs.Keys.{same_keys, keys_same}
 use Rattle.quel_meaning.proofs.DatabaseFacts.{found_passes}
 

@@ -1,8 +1,8 @@
-//! How many variables a query has once the views in it are put in, with those of its aggregates.
+//! How many variables a query has once the views in it are expanded, with those of its aggregates.
 
 ghost use Rattle.std.specs.Prelude.{◌≡◌, ◌+◌, ◌-◌, ◌^◌, ◌≤◌, ◌||◌, cond, min, length, map, sum_by, true, IfOk, OnOk, Some};
 ghost use Rattle.std.specs.List.{list_all};
-ghost use Rattle.am_traits.specs.Causes.{HasCause};
+ghost use Rattle.base_trait.specs.Causes.{HasCause};
 ghost use Rattle.calculus.specs.Assignments.{is_changed};
 ghost use Rattle.calculus.specs.Database.{Db};
 ghost use Rattle.calculus.specs.Lists.{is_any};
@@ -16,7 +16,7 @@ ghost use Rattle.view_sizes.specs.Remembered.{AreMeasured};
 use crate::aggregates::aggregates_of;
 use crate::remembered::Measures;
 use crate::variables::{variables_found, variables_through, variables_under_found};
-use am_traits::{Base, BaseFault};
+use base_trait::{Base, BaseFault};
 use calculus::limits::MOST_LEVEL;
 use calculus::{AggSource, QAgg, Query, RelKey, Update, UpdateOp};
 use indexmap::IndexMap;
@@ -30,7 +30,7 @@ fn source_variables<B: Base>(
     found: &mut Measures,
     source: &AggSource,
 ) -> Result<u64, BaseFault>
-    ensures told { (db : Db) → B.schema base.old ≡ Some db → AreMeasured db found.old.entries → source_lists_few source.now ≡ true → IfOk result (λ n. n ≡ min (source_variables (measure_within 16 db) source.now) (2 ^ 64 - 1)) }
+    ensures known { (db : Db) → B.schema base.old ≡ Some db → AreMeasured db found.old.entries → source_lists_few source.now ≡ true → IfOk result (λ n. n ≡ min (source_variables (measure_within 16 db) source.now) (2 ^ 64 - 1)) }
     ensures found { (db : Db) → B.schema base.old ≡ Some db → AreMeasured db found.old.entries → OnOk result (AreMeasured db found.new.entries) }
     ensures kept { B.database base.new ≡ B.database base.old }
     ensures stays { (s : Db) → B.schema base.old ≡ Some s → B.schema base.new ≡ Some s }
@@ -50,7 +50,7 @@ fn variables_of_all<B: Base>(
     found: &mut Measures,
     aggregates: &[&QAgg],
 ) -> Result<u64, BaseFault>
-    ensures told { (db : Db) → B.schema base.old ≡ Some db → AreMeasured db found.old.entries → list_all (λ g. source_lists_few g.now.source) aggregates.now ≡ true → IfOk result (λ n. n ≡ min (sum_by (λ g. source_variables (measure_within 16 db) g.now.source) aggregates.now) (2 ^ 64 - 1)) }
+    ensures known { (db : Db) → B.schema base.old ≡ Some db → AreMeasured db found.old.entries → list_all (λ g. source_lists_few g.now.source) aggregates.now ≡ true → IfOk result (λ n. n ≡ min (sum_by (λ g. source_variables (measure_within 16 db) g.now.source) aggregates.now) (2 ^ 64 - 1)) }
     ensures found { (db : Db) → B.schema base.old ≡ Some db → AreMeasured db found.old.entries → OnOk result (AreMeasured db found.new.entries) }
     ensures kept { B.database base.new ≡ B.database base.old }
     ensures stays { (s : Db) → B.schema base.old ≡ Some s → B.schema base.new ≡ Some s }
@@ -72,7 +72,7 @@ fn aggregate_variables<B: Base>(
     found: &mut Measures,
     query: &Query,
 ) -> Result<u64, BaseFault>
-    ensures told { (db : Db) → B.schema base.old ≡ Some db → AreMeasured db found.old.entries → sources_list_few query.now ≡ true → IfOk result (λ n. n ≡ min (sum_by (λ g. source_variables (measure_within 16 db) g.source) (query_aggregates query.now)) (2 ^ 64 - 1)) }
+    ensures known { (db : Db) → B.schema base.old ≡ Some db → AreMeasured db found.old.entries → sources_list_few query.now ≡ true → IfOk result (λ n. n ≡ min (sum_by (λ g. source_variables (measure_within 16 db) g.source) (query_aggregates query.now)) (2 ^ 64 - 1)) }
     ensures found { (db : Db) → B.schema base.old ≡ Some db → AreMeasured db found.old.entries → OnOk result (AreMeasured db found.new.entries) }
     ensures kept { B.database base.new ≡ B.database base.old }
     ensures stays { (s : Db) → B.schema base.old ≡ Some s → B.schema base.new ≡ Some s }
@@ -83,7 +83,7 @@ fn aggregate_variables<B: Base>(
     variables_of_all(alloc, base, found, &aggregates)
 }
 
-/// The variables of a query once the views in it are put in, those of the sources of its aggregates
+/// The variables of a query once the views in it are expanded, those of the sources of its aggregates
 /// counted too, or the greatest number of 64 bits: those that it uses, where neither it nor the query
 /// that is a source lists more than 256.
 pub fn expanded_variables<B: Base>(
@@ -91,7 +91,7 @@ pub fn expanded_variables<B: Base>(
     base: &mut B,
     query: &Query,
 ) -> Result<u64, BaseFault>
-    ensures told { (db : Db) → B.schema base.old ≡ Some db → length (vars_of query.now) ≤ 256 → sources_list_few query.now ≡ true → IfOk result (λ n. n ≡ min (expanded_variables db query.now) (2 ^ 64 - 1)) }
+    ensures known { (db : Db) → B.schema base.old ≡ Some db → length (vars_of query.now) ≤ 256 → sources_list_few query.now ≡ true → IfOk result (λ n. n ≡ min (expanded_variables db query.now) (2 ^ 64 - 1)) }
     ensures kept { B.database base.new ≡ B.database base.old }
     ensures stays { (s : Db) → B.schema base.old ≡ Some s → B.schema base.new ≡ Some s }
     ensures asked { (b : B) → B.asked b base.old → B.asked b base.new }
@@ -103,7 +103,7 @@ pub fn expanded_variables<B: Base>(
     Ok(own.saturating_add(below))
 }
 
-/// The variables that a query lists once the views in it are put in, those of the sources of its
+/// The variables that a query lists once the views in it are expanded, those of the sources of its
 /// aggregates counted too, or the greatest number of 64 bits, where no query that is a source lists
 /// more than 256.
 pub fn listed_expanded_variables<B: Base>(
@@ -111,7 +111,7 @@ pub fn listed_expanded_variables<B: Base>(
     base: &mut B,
     query: &Query,
 ) -> Result<u64, BaseFault>
-    ensures told { (db : Db) → B.schema base.old ≡ Some db → sources_list_few query.now ≡ true → IfOk result (λ n. n ≡ min (listed_expanded_variables db query.now) (2 ^ 64 - 1)) }
+    ensures known { (db : Db) → B.schema base.old ≡ Some db → sources_list_few query.now ≡ true → IfOk result (λ n. n ≡ min (listed_expanded_variables db query.now) (2 ^ 64 - 1)) }
     ensures kept { B.database base.new ≡ B.database base.old }
     ensures stays { (s : Db) → B.schema base.old ≡ Some s → B.schema base.new ≡ Some s }
     ensures asked { (b : B) → B.asked b base.old → B.asked b base.new }
@@ -150,7 +150,7 @@ fn counted_at<B: Base>(
     place: u8,
     key: &RelKey,
 ) -> Result<u64, BaseFault>
-    ensures told { (db : Db) → B.schema base.old ≡ Some db → AreMeasured db found.old.entries → IfOk result (λ n. n ≡ cond (is_any (used_in_query place u.now.query) || is_changed u.now place) (min (measure_within 16 db key.now).variables (2 ^ 64 - 1)) 0) }
+    ensures known { (db : Db) → B.schema base.old ≡ Some db → AreMeasured db found.old.entries → IfOk result (λ n. n ≡ cond (is_any (used_in_query place u.now.query) || is_changed u.now place) (min (measure_within 16 db key.now).variables (2 ^ 64 - 1)) 0) }
     ensures found { (db : Db) → B.schema base.old ≡ Some db → AreMeasured db found.old.entries → OnOk result (AreMeasured db found.new.entries) }
     ensures kept { B.database base.new ≡ B.database base.old }
     ensures stays { (s : Db) → B.schema base.old ≡ Some s → B.schema base.new ≡ Some s }
@@ -171,7 +171,7 @@ fn counted_variables<B: Base>(
     found: &mut Measures,
     u: &Update,
 ) -> Result<u64, BaseFault>
-    ensures told { (db : Db) → B.schema base.old ≡ Some db → AreMeasured db found.old.entries → length (vars_of u.now.query) ≤ 256 → IfOk result (λ n. n ≡ min (sum_by (λ p. (measure_within 16 db p.1).variables) (update_vars u.now)) (2 ^ 64 - 1)) }
+    ensures known { (db : Db) → B.schema base.old ≡ Some db → AreMeasured db found.old.entries → length (vars_of u.now.query) ≤ 256 → IfOk result (λ n. n ≡ min (sum_by (λ p. (measure_within 16 db p.1).variables) (update_vars u.now)) (2 ^ 64 - 1)) }
     ensures found { (db : Db) → B.schema base.old ≡ Some db → AreMeasured db found.old.entries → OnOk result (AreMeasured db found.new.entries) }
     ensures kept { B.database base.new ≡ B.database base.old }
     ensures stays { (s : Db) → B.schema base.old ≡ Some s → B.schema base.new ≡ Some s }
@@ -188,7 +188,7 @@ fn counted_variables<B: Base>(
     Ok(count)
 }
 
-/// The variables of an update that count once the views in it are put in, those of the sources of its
+/// The variables of an update that count once the views in it are expanded, those of the sources of its
 /// aggregates counted too, or the greatest number of 64 bits, where neither its query nor one that is
 /// a source lists more than 256.
 pub fn update_expanded_variables<B: Base>(
@@ -196,7 +196,7 @@ pub fn update_expanded_variables<B: Base>(
     base: &mut B,
     u: &Update,
 ) -> Result<u64, BaseFault>
-    ensures told { (db : Db) → B.schema base.old ≡ Some db → length (vars_of u.now.query) ≤ 256 → sources_list_few u.now.query ≡ true → IfOk result (λ n. n ≡ min (update_expanded_variables db u.now) (2 ^ 64 - 1)) }
+    ensures known { (db : Db) → B.schema base.old ≡ Some db → length (vars_of u.now.query) ≤ 256 → sources_list_few u.now.query ≡ true → IfOk result (λ n. n ≡ min (update_expanded_variables db u.now) (2 ^ 64 - 1)) }
     ensures kept { B.database base.new ≡ B.database base.old }
     ensures stays { (s : Db) → B.schema base.old ≡ Some s → B.schema base.new ≡ Some s }
     ensures asked { (b : B) → B.asked b base.old → B.asked b base.new }

@@ -1,4 +1,4 @@
-//! How large queries and views are once the views in them are put in.
+//! How large queries and views are once the views in them are expanded.
 #![tactic(auto)]
 
 mod aggregates;

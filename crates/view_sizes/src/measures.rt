@@ -1,8 +1,8 @@
-//! What is known of views once the views in them are put in.
+//! What is known of views once the views in them are expanded.
 
 ghost use Rattle.std.specs.Prelude.{◌≡◌, ◌≤◌, ◌<◌, ◌-◌, ◌^◌, ◌∷◌, ◌++◌, [], min, cond, filter, length, map, sum_by, IfOk, OnOk, Some};
 ghost use Rattle.std.specs.List.{enumerate_from};
-ghost use Rattle.am_traits.specs.Causes.{HasCause};
+ghost use Rattle.base_trait.specs.Causes.{HasCause};
 ghost use Rattle.calculus.specs.Database.{Db};
 ghost use Rattle.calculus.specs.Lists.{is_any};
 ghost use Rattle.calculus.specs.QueryParts.{vars_of};
@@ -13,7 +13,7 @@ ghost use Rattle.view_sizes.specs.Remembered.{AreMeasured};
 
 use crate::remembered::{Measures, measure_found, remember_measure};
 use crate::sizes::{Measure, qual_size, term_size};
-use am_traits::{Base, BaseFault};
+use base_trait::{Base, BaseFault};
 use calculus::limits::MOST_LEVEL;
 use calculus::{OutOfMemory, Query, RelKey, Target};
 use indexmap::IndexMap;
@@ -115,7 +115,7 @@ pub(crate) fn measure_within<B: Base>(
     key: &RelKey,
     levels: u8,
 ) -> Result<Measure, BaseFault>
-    ensures told { (db : Db) → B.schema base.old ≡ Some db → AreMeasured db found.old.entries → IfOk result (λ m. held m ≡ stopped_measure (measure_within levels db key.now)) }
+    ensures known { (db : Db) → B.schema base.old ≡ Some db → AreMeasured db found.old.entries → IfOk result (λ m. held m ≡ stopped_measure (measure_within levels db key.now)) }
     ensures found { (db : Db) → B.schema base.old ≡ Some db → AreMeasured db found.old.entries → OnOk result (AreMeasured db found.new.entries) }
     ensures kept { B.database base.new ≡ B.database base.old }
     ensures stays { (s : Db) → B.schema base.old ≡ Some s → B.schema base.new ≡ Some s }
@@ -142,7 +142,7 @@ fn measure_anew<B: Base>(
     levels: u8,
 ) -> Result<Measure, BaseFault>
     requires { 0 < levels }
-    ensures told { (db : Db) → B.schema base.old ≡ Some db → AreMeasured db found.old.entries → IfOk result (λ m. held m ≡ stopped_measure (measure_within levels db key.now)) }
+    ensures known { (db : Db) → B.schema base.old ≡ Some db → AreMeasured db found.old.entries → IfOk result (λ m. held m ≡ stopped_measure (measure_within levels db key.now)) }
     ensures found { (db : Db) → B.schema base.old ≡ Some db → AreMeasured db found.old.entries → OnOk result (AreMeasured db found.new.entries) }
     ensures kept { B.database base.new ≡ B.database base.old }
     ensures stays { (s : Db) → B.schema base.old ≡ Some s → B.schema base.new ≡ Some s }
@@ -171,7 +171,7 @@ pub(crate) fn measure_through<B: Base>(
     query: &Query,
     levels: u8,
 ) -> Result<Measure, BaseFault>
-    ensures told { (db : Db) → B.schema base.old ≡ Some db → AreMeasured db found.old.entries → length (vars_of query.now) ≤ 256 → IfOk result (λ m. held m ≡ stopped_measure (query_measure (measure_within levels db) query.now)) }
+    ensures known { (db : Db) → B.schema base.old ≡ Some db → AreMeasured db found.old.entries → length (vars_of query.now) ≤ 256 → IfOk result (λ m. held m ≡ stopped_measure (query_measure (measure_within levels db) query.now)) }
     ensures found { (db : Db) → B.schema base.old ≡ Some db → AreMeasured db found.old.entries → OnOk result (AreMeasured db found.new.entries) }
     ensures kept { B.database base.new ≡ B.database base.old }
     ensures stays { (s : Db) → B.schema base.old ≡ Some s → B.schema base.new ≡ Some s }
@@ -194,7 +194,7 @@ pub fn measure_of<B: Base>(
     query: &Query,
     levels: u8,
 ) -> Result<Measure, BaseFault>
-    ensures told { (db : Db) → B.schema base.old ≡ Some db → length (vars_of query.now) ≤ 256 → IfOk result (λ m. held m ≡ stopped_measure (query_measure (measure_within levels db) query.now)) }
+    ensures known { (db : Db) → B.schema base.old ≡ Some db → length (vars_of query.now) ≤ 256 → IfOk result (λ m. held m ≡ stopped_measure (query_measure (measure_within levels db) query.now)) }
     ensures kept { B.database base.new ≡ B.database base.old }
     ensures stays { (s : Db) → B.schema base.old ≡ Some s → B.schema base.new ≡ Some s }
     ensures asked { (b : B) → B.asked b base.old → B.asked b base.new }
@@ -221,7 +221,7 @@ pub fn used_count(query: &Query) -> u64
 /// The size of a query as that of a view, the views in it put in, or the greatest number of 64 bits,
 /// where it lists at most 256 variables.
 pub fn query_size<B: Base>(alloc: Global, base: &mut B, query: &Query) -> Result<u64, BaseFault>
-    ensures told { (db : Db) → B.schema base.old ≡ Some db → length (vars_of query.now) ≤ 256 → IfOk result (λ n. n ≡ min (query_size db query.now) (2 ^ 64 - 1)) }
+    ensures known { (db : Db) → B.schema base.old ≡ Some db → length (vars_of query.now) ≤ 256 → IfOk result (λ n. n ≡ min (query_size db query.now) (2 ^ 64 - 1)) }
     ensures kept { B.database base.new ≡ B.database base.old }
     ensures stays { (s : Db) → B.schema base.old ≡ Some s → B.schema base.new ≡ Some s }
     ensures asked { (b : B) → B.asked b base.old → B.asked b base.new }

@@ -2,7 +2,7 @@
 
 ghost use Rattle.std.specs.Prelude.{◌≡◌, is_some, IfOk, OnOk, Some};
 ghost use Rattle.std.specs.List.{list_all};
-ghost use Rattle.am_traits.specs.Causes.{HasCause};
+ghost use Rattle.base_trait.specs.Causes.{HasCause};
 ghost use Rattle.calculus.specs.Database.{Db};
 ghost use Rattle.calculus.specs.Sizes.{level_within, query_level};
 ghost use Rattle.calculus.specs.Stored.{range_at};
@@ -11,7 +11,7 @@ ghost use Rattle.view_sizes.specs.Remembered.{HaveLevels};
 ghost use Rattle.view_sizes.specs.Standing.{is_ranged};
 
 use crate::remembered::{Levels, level_is_found, remember_level};
-use am_traits::{Base, BaseFault};
+use base_trait::{Base, BaseFault};
 use calculus::{Query, RelInfo, RelKey, Spec};
 use indexmap::IndexSet;
 use std::alloc::Global;
@@ -37,7 +37,7 @@ fn is_ranged(info: &Option<RelInfo>) -> bool
 
 /// Whether a variable may range over what stands under a key.
 pub fn is_range<B: Base>(alloc: Global, base: &mut B, key: &RelKey) -> Result<bool, BaseFault>
-    ensures told { (db : Db) → B.schema base.old ≡ Some db → IfOk result (λ there. there ≡ is_some (range_at db key.now)) }
+    ensures known { (db : Db) → B.schema base.old ≡ Some db → IfOk result (λ there. there ≡ is_some (range_at db key.now)) }
     ensures kept { B.database base.new ≡ B.database base.old }
     ensures stays { (s : Db) → B.schema base.old ≡ Some s → B.schema base.new ≡ Some s }
     ensures asked { (b : B) → B.asked b base.old → B.asked b base.new }
@@ -49,7 +49,7 @@ pub fn is_range<B: Base>(alloc: Global, base: &mut B, key: &RelKey) -> Result<bo
 
 /// Whether a variable may range over what stands under each key.
 pub fn are_ranges<B: Base>(alloc: Global, base: &mut B, vars: &[RelKey]) -> Result<bool, BaseFault>
-    ensures told { (db : Db) → B.schema base.old ≡ Some db → IfOk result (λ there. there ≡ list_all (λ key. is_some (range_at db key)) vars.now) }
+    ensures known { (db : Db) → B.schema base.old ≡ Some db → IfOk result (λ there. there ≡ list_all (λ key. is_some (range_at db key)) vars.now) }
     ensures kept { B.database base.new ≡ B.database base.old }
     ensures stays { (s : Db) → B.schema base.old ≡ Some s → B.schema base.new ≡ Some s }
     ensures asked { (b : B) → B.asked b base.old → B.asked b base.new }
@@ -74,7 +74,7 @@ fn has_level<B: Base>(
     key: &RelKey,
     levels: u8,
 ) -> Result<bool, BaseFault>
-    ensures told { (db : Db) → B.schema base.old ≡ Some db → HaveLevels db found.old.keys → IfOk result (λ has. has ≡ is_some (level_within levels db key.now)) }
+    ensures known { (db : Db) → B.schema base.old ≡ Some db → HaveLevels db found.old.keys → IfOk result (λ has. has ≡ is_some (level_within levels db key.now)) }
     ensures found { (db : Db) → B.schema base.old ≡ Some db → HaveLevels db found.old.keys → OnOk result (HaveLevels db found.new.keys) }
     ensures kept { B.database base.new ≡ B.database base.old }
     ensures stays { (s : Db) → B.schema base.old ≡ Some s → B.schema base.new ≡ Some s }
@@ -97,7 +97,7 @@ fn has_level_anew<B: Base>(
     key: &RelKey,
     levels: u8,
 ) -> Result<bool, BaseFault>
-    ensures told { (db : Db) → B.schema base.old ≡ Some db → HaveLevels db found.old.keys → IfOk result (λ has. has ≡ is_some (level_within levels db key.now)) }
+    ensures known { (db : Db) → B.schema base.old ≡ Some db → HaveLevels db found.old.keys → IfOk result (λ has. has ≡ is_some (level_within levels db key.now)) }
     ensures found { (db : Db) → B.schema base.old ≡ Some db → HaveLevels db found.old.keys → OnOk result (HaveLevels db found.new.keys) }
     ensures kept { B.database base.new ≡ B.database base.old }
     ensures stays { (s : Db) → B.schema base.old ≡ Some s → B.schema base.new ≡ Some s }
@@ -128,7 +128,7 @@ fn have_levels_found<B: Base>(
     vars: &[RelKey],
     levels: u8,
 ) -> Result<bool, BaseFault>
-    ensures told { (db : Db) → B.schema base.old ≡ Some db → HaveLevels db found.old.keys → IfOk result (λ have. have ≡ list_all (λ key. is_some (level_within levels db key)) vars.now) }
+    ensures known { (db : Db) → B.schema base.old ≡ Some db → HaveLevels db found.old.keys → IfOk result (λ have. have ≡ list_all (λ key. is_some (level_within levels db key)) vars.now) }
     ensures found { (db : Db) → B.schema base.old ≡ Some db → HaveLevels db found.old.keys → OnOk result (HaveLevels db found.new.keys) }
     ensures kept { B.database base.new ≡ B.database base.old }
     ensures stays { (s : Db) → B.schema base.old ≡ Some s → B.schema base.new ≡ Some s }
@@ -152,7 +152,7 @@ pub fn have_levels<B: Base>(
     vars: &[RelKey],
     levels: u8,
 ) -> Result<bool, BaseFault>
-    ensures told { (db : Db) → B.schema base.old ≡ Some db → IfOk result (λ have. have ≡ list_all (λ key. is_some (level_within levels db key)) vars.now) }
+    ensures known { (db : Db) → B.schema base.old ≡ Some db → IfOk result (λ have. have ≡ list_all (λ key. is_some (level_within levels db key)) vars.now) }
     ensures kept { B.database base.new ≡ B.database base.old }
     ensures stays { (s : Db) → B.schema base.old ≡ Some s → B.schema base.new ≡ Some s }
     ensures asked { (b : B) → B.asked b base.old → B.asked b base.new }
@@ -168,7 +168,7 @@ pub fn has_high_level<B: Base>(
     base: &mut B,
     query: &Query,
 ) -> Result<bool, BaseFault>
-    ensures told { (db : Db) → B.schema base.old ≡ Some db → IfOk result (λ high. high ≡ is_too_high (query_level db query.now)) }
+    ensures known { (db : Db) → B.schema base.old ≡ Some db → IfOk result (λ high. high ≡ is_too_high (query_level db query.now)) }
     ensures kept { B.database base.new ≡ B.database base.old }
     ensures stays { (s : Db) → B.schema base.old ≡ Some s → B.schema base.new ≡ Some s }
     ensures asked { (b : B) → B.asked b base.old → B.asked b base.new }

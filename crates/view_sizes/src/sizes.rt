@@ -6,7 +6,7 @@ ghost use Rattle.view_sizes.specs.Measured.{held};
 
 use calculus::{QQual, QTerm};
 
-/// What a variable is once the views in it are put in.
+/// What a variable is once the views in it are expanded.
 #[derive(Drop)]
 pub struct Measure {
     /// How many variables.

@@ -1,7 +1,7 @@
-//! How many variables a query has once the views in it are put in.
+//! How many variables a query has once the views in it are expanded.
 
 ghost use Rattle.std.specs.Prelude.{◌≡◌, ◌≤◌, ◌-◌, ◌^◌, [], min, length, sum_by, IfOk, OnOk, Some};
-ghost use Rattle.am_traits.specs.Causes.{HasCause};
+ghost use Rattle.base_trait.specs.Causes.{HasCause};
 ghost use Rattle.calculus.specs.Database.{Db};
 ghost use Rattle.calculus.specs.QueryParts.{vars_of};
 ghost use Rattle.calculus.specs.Sizes.{measure_within, query_measure};
@@ -9,7 +9,7 @@ ghost use Rattle.view_sizes.specs.Remembered.{AreMeasured};
 
 use crate::measures::{measure_of, measure_through, measure_within};
 use crate::remembered::Measures;
-use am_traits::{Base, BaseFault};
+use base_trait::{Base, BaseFault};
 use calculus::limits::MOST_LEVEL;
 use calculus::{Query, RelKey};
 use indexmap::IndexMap;
@@ -24,7 +24,7 @@ pub(crate) fn variables_found<B: Base>(
     key: &RelKey,
     levels: u8,
 ) -> Result<u64, BaseFault>
-    ensures told { (db : Db) → B.schema base.old ≡ Some db → AreMeasured db found.old.entries → IfOk result (λ n. n ≡ min (measure_within levels db key.now).variables (2 ^ 64 - 1)) }
+    ensures known { (db : Db) → B.schema base.old ≡ Some db → AreMeasured db found.old.entries → IfOk result (λ n. n ≡ min (measure_within levels db key.now).variables (2 ^ 64 - 1)) }
     ensures found { (db : Db) → B.schema base.old ≡ Some db → AreMeasured db found.old.entries → OnOk result (AreMeasured db found.new.entries) }
     ensures kept { B.database base.new ≡ B.database base.old }
     ensures stays { (s : Db) → B.schema base.old ≡ Some s → B.schema base.new ≡ Some s }
@@ -42,7 +42,7 @@ pub fn variables_within<B: Base>(
     key: &RelKey,
     levels: u8,
 ) -> Result<u64, BaseFault>
-    ensures told { (db : Db) → B.schema base.old ≡ Some db → IfOk result (λ n. n ≡ min (measure_within levels db key.now).variables (2 ^ 64 - 1)) }
+    ensures known { (db : Db) → B.schema base.old ≡ Some db → IfOk result (λ n. n ≡ min (measure_within levels db key.now).variables (2 ^ 64 - 1)) }
     ensures kept { B.database base.new ≡ B.database base.old }
     ensures stays { (s : Db) → B.schema base.old ≡ Some s → B.schema base.new ≡ Some s }
     ensures asked { (b : B) → B.asked b base.old → B.asked b base.new }
@@ -59,7 +59,7 @@ pub fn variables_of<B: Base>(
     query: &Query,
     levels: u8,
 ) -> Result<u64, BaseFault>
-    ensures told { (db : Db) → B.schema base.old ≡ Some db → length (vars_of query.now) ≤ 256 → IfOk result (λ n. n ≡ min (query_measure (measure_within levels db) query.now).variables (2 ^ 64 - 1)) }
+    ensures known { (db : Db) → B.schema base.old ≡ Some db → length (vars_of query.now) ≤ 256 → IfOk result (λ n. n ≡ min (query_measure (measure_within levels db) query.now).variables (2 ^ 64 - 1)) }
     ensures kept { B.database base.new ≡ B.database base.old }
     ensures stays { (s : Db) → B.schema base.old ≡ Some s → B.schema base.new ≡ Some s }
     ensures asked { (b : B) → B.asked b base.old → B.asked b base.new }
@@ -78,7 +78,7 @@ pub(crate) fn variables_through<B: Base>(
     query: &Query,
     levels: u8,
 ) -> Result<u64, BaseFault>
-    ensures told { (db : Db) → B.schema base.old ≡ Some db → AreMeasured db found.old.entries → length (vars_of query.now) ≤ 256 → IfOk result (λ n. n ≡ min (query_measure (measure_within levels db) query.now).variables (2 ^ 64 - 1)) }
+    ensures known { (db : Db) → B.schema base.old ≡ Some db → AreMeasured db found.old.entries → length (vars_of query.now) ≤ 256 → IfOk result (λ n. n ≡ min (query_measure (measure_within levels db) query.now).variables (2 ^ 64 - 1)) }
     ensures found { (db : Db) → B.schema base.old ≡ Some db → AreMeasured db found.old.entries → OnOk result (AreMeasured db found.new.entries) }
     ensures kept { B.database base.new ≡ B.database base.old }
     ensures stays { (s : Db) → B.schema base.old ≡ Some s → B.schema base.new ≡ Some s }
@@ -96,7 +96,7 @@ pub(crate) fn variables_under_found<B: Base>(
     found: &mut Measures,
     vars: &[RelKey],
 ) -> Result<u64, BaseFault>
-    ensures told { (db : Db) → B.schema base.old ≡ Some db → AreMeasured db found.old.entries → IfOk result (λ n. n ≡ min (sum_by (λ key. (measure_within 16 db key).variables) vars.now) (2 ^ 64 - 1)) }
+    ensures known { (db : Db) → B.schema base.old ≡ Some db → AreMeasured db found.old.entries → IfOk result (λ n. n ≡ min (sum_by (λ key. (measure_within 16 db key).variables) vars.now) (2 ^ 64 - 1)) }
     ensures found { (db : Db) → B.schema base.old ≡ Some db → AreMeasured db found.old.entries → OnOk result (AreMeasured db found.new.entries) }
     ensures kept { B.database base.new ≡ B.database base.old }
     ensures stays { (s : Db) → B.schema base.old ≡ Some s → B.schema base.new ≡ Some s }
@@ -117,7 +117,7 @@ pub fn variables_under<B: Base>(
     base: &mut B,
     vars: &[RelKey],
 ) -> Result<u64, BaseFault>
-    ensures told { (db : Db) → B.schema base.old ≡ Some db → IfOk result (λ n. n ≡ min (sum_by (λ key. (measure_within 16 db key).variables) vars.now) (2 ^ 64 - 1)) }
+    ensures known { (db : Db) → B.schema base.old ≡ Some db → IfOk result (λ n. n ≡ min (sum_by (λ key. (measure_within 16 db key).variables) vars.now) (2 ^ 64 - 1)) }
     ensures kept { B.database base.new ≡ B.database base.old }
     ensures stays { (s : Db) → B.schema base.old ≡ Some s → B.schema base.new ≡ Some s }
     ensures asked { (b : B) → B.asked b base.old → B.asked b base.new }

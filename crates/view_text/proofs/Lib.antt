@@ -1,7 +1,7 @@
 pub mod ReplacedForms
 pub mod Within
-pub mod Moving
-pub mod PutText
+pub mod Shifting
+pub mod PutExpansion
 pub mod HalvesForms
 pub mod Scope
 pub mod JoinedWithin

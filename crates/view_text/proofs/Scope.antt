@@ -10,11 +10,11 @@ use Rattle.calculus.specs.Term.{holds, no_aggs}
 use Rattle.calculus.specs.declared.query.Query.{Query}
 use Rattle.calculus.specs.declared.query.Target.{Target}
 use Rattle.calculus.specs.QueryParts.{targets_of, qual_of}
-use Rattle.view_text.specs.declared.text.Text.{Text}
-use Rattle.view_text.specs.Replaced.{Putting, replaced, replaced_in_qual, no_aggregate, further, without_value, moved, moved_qual, of_only}
+use Rattle.view_text.specs.declared.expansion.Expansion.{Expansion}
+use Rattle.view_text.specs.Replaced.{Substitution, replaced, replaced_in_qual, no_aggregate, further, without_value, shifted, shifted_qual, of_only}
 use Rattle.view_text.specs.Scoped.{is_within, is_qual_within, are_within, is_scoped}
-use Rattle.view_text.specs.Texts.{term_at, own_or, attr_term, texts_vars, put_from, conditions_from}
-use Rattle.view_text.specs.TextOf.{kept_text, has_value, put_terms, rows_conditions, settled, rows_text}
+use Rattle.view_text.specs.Expansions.{term_at, own_or, attr_term, expansions_vars, substituted_from, conditions_from}
+use Rattle.view_text.specs.ExpansionOf.{kept_expansion, has_value, substituted_terms, rows_conditions, settled, rows_expansion}
 use Rattle.view_text.proofs.Within.{PutsWithin, FirstWithin, left_true, right_true, both_true, replaced_within, replaced_qual_within, first_within, first_qual_within}
 
 -- ---- lists
@@ -31,17 +31,17 @@ moves_within : (n k m : ℕ) → n + k ≤ m → FirstWithin k m (further n)
 unfolding is_within
 moves_within n k m h var attr l = lt-ltb (n + var) m (omega arith)
 
-pub moved_within : (n k m : ℕ) → n + k ≤ m → (t : QTerm) → is_within k t ≡ true → is_within m (moved n t) ≡ true
-moved_within n k m h t w = first_within k m (further n) (moves_within n k m h) t w
+pub shifted_within : (n k m : ℕ) → n + k ≤ m → (t : QTerm) → is_within k t ≡ true → is_within m (shifted n t) ≡ true
+shifted_within n k m h t w = first_within k m (further n) (moves_within n k m h) t w
 
-all_moved : (n k m : ℕ) → n + k ≤ m → (qs : List QQual) → list_all (is_qual_within k) qs ≡ true → list_all (is_qual_within m) (map (moved_qual n) qs) ≡ true
-all_moved n k m h [] w = refl
-all_moved n k m h (q ∷ qs) w =
-    both_true (is_qual_within m (moved_qual n q)) (list_all (is_qual_within m) (map (moved_qual n) qs))
+all_shifted : (n k m : ℕ) → n + k ≤ m → (qs : List QQual) → list_all (is_qual_within k) qs ≡ true → list_all (is_qual_within m) (map (shifted_qual n) qs) ≡ true
+all_shifted n k m h [] w = refl
+all_shifted n k m h (q ∷ qs) w =
+    both_true (is_qual_within m (shifted_qual n q)) (list_all (is_qual_within m) (map (shifted_qual n) qs))
     (first_qual_within k m (further n) (moves_within n k m h) q (left_true (is_qual_within k q) (list_all (is_qual_within k) qs) w))
-    (all_moved n k m h qs (right_true (is_qual_within k q) (list_all (is_qual_within k) qs) w))
+    (all_shifted n k m h qs (right_true (is_qual_within k q) (list_all (is_qual_within k) qs) w))
 
--- ---- the terms of texts
+-- ---- the terms of expansions
 
 without_within : (n : ℕ) → is_within n without_value ≡ true
 unfolding is_within
@@ -57,34 +57,34 @@ unfolding is_within
 own_within k None attr h = h
 own_within k (Some terms) attr h = term_at_within k terms attr h
 
-attr_within : (text : Text) (attr : ℕ) → is_scoped text ≡ true → is_within (length text.vars) (attr_term text attr) ≡ true
-attr_within text attr h =
-    own_within (length text.vars) text.terms attr (left_true (are_within (length text.vars) text.terms) (list_all (is_qual_within (length text.vars)) text.conditions) h)
+attr_within : (expansion : Expansion) (attr : ℕ) → is_scoped expansion ≡ true → is_within (length expansion.vars) (attr_term expansion attr) ≡ true
+attr_within expansion attr h =
+    own_within (length expansion.vars) expansion.terms attr (left_true (are_within (length expansion.vars) expansion.terms) (list_all (is_qual_within (length expansion.vars)) expansion.conditions) h)
 
-vars_before : (text : Text) (texts : List Text) → length (texts_vars (text ∷ texts)) ≡ length text.vars + length (texts_vars texts)
-vars_before text texts = length-append text.vars (texts_vars texts)
+vars_before : (expansion : Expansion) (expansions : List Expansion) → length (expansions_vars (expansion ∷ expansions)) ≡ length expansion.vars + length (expansions_vars expansions)
+vars_before expansion expansions = length-append expansion.vars (expansions_vars expansions)
 
-pub put_within : (n m : ℕ) (texts : List Text) → list_all is_scoped texts ≡ true → n + length (texts_vars texts) ≤ m → PutsWithin m (put_from n texts)
+pub put_within : (n m : ℕ) (expansions : List Expansion) → list_all is_scoped expansions ≡ true → n + length (expansions_vars expansions) ≤ m → PutsWithin m (substituted_from n expansions)
 put_within n m [] s h var attr = without_within m
-put_within n m (text ∷ texts) s h zero attr =
-    let e = vars_before text texts in
-    moved_within n (length text.vars) m (omega arith) (attr_term text attr) (attr_within text attr (left_true (is_scoped text) (list_all is_scoped texts) s))
-put_within n m (text ∷ texts) s h (suc var) attr =
-    let e = vars_before text texts in
-    put_within (n + length text.vars) m texts (right_true (is_scoped text) (list_all is_scoped texts) s) (omega arith) var attr
+put_within n m (expansion ∷ expansions) s h zero attr =
+    let e = vars_before expansion expansions in
+    shifted_within n (length expansion.vars) m (omega arith) (attr_term expansion attr) (attr_within expansion attr (left_true (is_scoped expansion) (list_all is_scoped expansions) s))
+put_within n m (expansion ∷ expansions) s h (suc var) attr =
+    let e = vars_before expansion expansions in
+    put_within (n + length expansion.vars) m expansions (right_true (is_scoped expansion) (list_all is_scoped expansions) s) (omega arith) var attr
 
-pub conditions_within : (n m : ℕ) (texts : List Text) → list_all is_scoped texts ≡ true → n + length (texts_vars texts) ≤ m → list_all (is_qual_within m) (conditions_from n texts) ≡ true
+pub conditions_within : (n m : ℕ) (expansions : List Expansion) → list_all is_scoped expansions ≡ true → n + length (expansions_vars expansions) ≤ m → list_all (is_qual_within m) (conditions_from n expansions) ≡ true
 conditions_within n m [] s h = refl
-conditions_within n m (text ∷ texts) s h =
-    let e = vars_before text texts in
-    all_append m (map (moved_qual n) text.conditions) (conditions_from (n + length text.vars) texts)
-    (all_moved n (length text.vars) m (omega arith) text.conditions
-    (right_true (are_within (length text.vars) text.terms) (list_all (is_qual_within (length text.vars)) text.conditions) (left_true (is_scoped text) (list_all is_scoped texts) s)))
-    (conditions_within (n + length text.vars) m texts (right_true (is_scoped text) (list_all is_scoped texts) s) (omega arith))
+conditions_within n m (expansion ∷ expansions) s h =
+    let e = vars_before expansion expansions in
+    all_append m (map (shifted_qual n) expansion.conditions) (conditions_from (n + length expansion.vars) expansions)
+    (all_shifted n (length expansion.vars) m (omega arith) expansion.conditions
+    (right_true (are_within (length expansion.vars) expansion.terms) (list_all (is_qual_within (length expansion.vars)) expansion.conditions) (left_true (is_scoped expansion) (list_all is_scoped expansions) s)))
+    (conditions_within (n + length expansion.vars) m expansions (right_true (is_scoped expansion) (list_all is_scoped expansions) s) (omega arith))
 
--- ---- the texts of queries and of what is kept
+-- ---- the expansions of queries and of what is kept
 
-terms_put_within : (m : ℕ) (put : Putting) → PutsWithin m put → (ts : List Target) → list_all (is_within m) (map (λ t. replaced no_aggregate put t.term) ts) ≡ true
+terms_put_within : (m : ℕ) (put : Substitution) → PutsWithin m put → (ts : List Target) → list_all (is_within m) (map (λ t. replaced no_aggregate put t.term) ts) ≡ true
 terms_put_within m put h [] = refl
 terms_put_within m put h (t ∷ ts) =
     both_true (is_within m (replaced no_aggregate put t.term)) (list_all (is_within m) (map (λ t. replaced no_aggregate put t.term) ts))
@@ -110,23 +110,23 @@ settled_within m [] conditions h = by (list_all (λ q. holds no_aggs q []) condi
     by false = refl
 settled_within m (key ∷ vars) conditions h = h
 
--- what is put in for a query's rows names only the texts' variables
-pub rows_scoped : (texts : List Text) (q : Query) → list_all is_scoped texts ≡ true → is_scoped (rows_text texts q) ≡ true
-rows_scoped texts q s =
-    let m : ℕ = length (texts_vars texts) in
-    let puts : PutsWithin m (put_from 0 texts) = put_within 0 m texts s (omega arith) in
-    let terms : list_all (is_within m) (put_terms texts q) ≡ true = terms_put_within m (put_from 0 texts) puts (targets_of q) in
-    both_true (list_all (is_within m) (put_terms texts q)) (list_all (is_qual_within m) (settled (texts_vars texts) (rows_conditions texts q))) terms
-    (settled_within m (texts_vars texts) (rows_conditions texts q)
-    (both_true (is_qual_within m (replaced_in_qual no_aggregate (put_from 0 texts) (qual_of q))) (list_all (is_qual_within m) (map has_value (put_terms texts q) ++ conditions_from 0 texts))
-    (replaced_qual_within m (put_from 0 texts) puts (qual_of q))
-    (all_append m (map has_value (put_terms texts q)) (conditions_from 0 texts) (values_within m (put_terms texts q) terms) (conditions_within 0 m texts s (omega arith)))))
+-- what is put in for a query's rows names only the expansions' variables
+pub rows_scoped : (expansions : List Expansion) (q : Query) → list_all is_scoped expansions ≡ true → is_scoped (rows_expansion expansions q) ≡ true
+rows_scoped expansions q s =
+    let m : ℕ = length (expansions_vars expansions) in
+    let puts : PutsWithin m (substituted_from 0 expansions) = put_within 0 m expansions s (omega arith) in
+    let terms : list_all (is_within m) (substituted_terms expansions q) ≡ true = terms_put_within m (substituted_from 0 expansions) puts (targets_of q) in
+    both_true (list_all (is_within m) (substituted_terms expansions q)) (list_all (is_qual_within m) (settled (expansions_vars expansions) (rows_conditions expansions q))) terms
+    (settled_within m (expansions_vars expansions) (rows_conditions expansions q)
+    (both_true (is_qual_within m (replaced_in_qual no_aggregate (substituted_from 0 expansions) (qual_of q))) (list_all (is_qual_within m) (map has_value (substituted_terms expansions q) ++ conditions_from 0 expansions))
+    (replaced_qual_within m (substituted_from 0 expansions) puts (qual_of q))
+    (all_append m (map has_value (substituted_terms expansions q)) (conditions_from 0 expansions) (values_within m (substituted_terms expansions q) terms) (conditions_within 0 m expansions s (omega arith)))))
 
-pub rows_made_scoped : (texts : List Text) (q : Query) (text : Text) → list_all is_scoped texts ≡ true → text ≡ rows_text texts q → is_scoped text ≡ true
-rows_made_scoped texts q text s e = ap is_scoped e ∙ rows_scoped texts q s
+pub rows_made_scoped : (expansions : List Expansion) (q : Query) (expansion : Expansion) → list_all is_scoped expansions ≡ true → expansion ≡ rows_expansion expansions q → is_scoped expansion ≡ true
+rows_made_scoped expansions q expansion s e = ap is_scoped e ∙ rows_scoped expansions q s
 
 -- what is kept, with conditions on the only variable's row
-pub kept_scoped : (conditions : List QQual) (key : RelKey) → list_all (is_qual_within 1) conditions ≡ true → is_scoped (kept_text conditions key) ≡ true
+pub kept_scoped : (conditions : List QQual) (key : RelKey) → list_all (is_qual_within 1) conditions ≡ true → is_scoped (kept_expansion conditions key) ≡ true
 kept_scoped conditions key h = h
 
 only_within : PutsWithin 1 of_only

@@ -4,7 +4,7 @@ use Rattle.std.proofs.lemmas.Bool.{ltb-true, lt-ltb}
 use Rattle.calculus.specs.declared.query.QTerm.{QTerm, Int, Chars, Attr, Agg'}
 use Rattle.calculus.specs.declared.query.QQual.{QQual, True, Cmp, Like}
 use Rattle.calculus.specs.Tree.{neg, abs, operation, concat, both, either, negated}
-use Rattle.view_text.specs.Replaced.{Putting, replaced, replaced_in_qual, no_aggregate}
+use Rattle.view_text.specs.Replaced.{Substitution, replaced, replaced_in_qual, no_aggregate}
 use Rattle.view_text.specs.Scoped.{is_within, is_qual_within}
 
 -- ---- truths
@@ -53,13 +53,13 @@ qual_within_more k n h (either p q) w =
     (qual_within_more k n h q (right_true (is_qual_within k p) (is_qual_within k q) w))
 qual_within_more k n h (negated p) w = qual_within_more k n h p w
 
--- ---- what is put in place of the first variables' attributes decides
+-- ---- what is substituted for the first variables' attributes decides
 
 -- the two put the same in place of the attributes of the first so many variables
-abbrev pub SamePut : ℕ → Putting → Putting → Type 0
+abbrev pub SamePut : ℕ → Substitution → Substitution → Type 0
 SamePut n put other = (var attr : ℕ) → var < n → put var attr ≡ other var attr
 
-pub replaced_same : (n : ℕ) (put other : Putting) → SamePut n put other → (t : QTerm) → is_within n t ≡ true → replaced no_aggregate put t ≡ replaced no_aggregate other t
+pub replaced_same : (n : ℕ) (put other : Substitution) → SamePut n put other → (t : QTerm) → is_within n t ≡ true → replaced no_aggregate put t ≡ replaced no_aggregate other t
 unfolding is_within replaced
 replaced_same n put other h (Int z) w = refl
 replaced_same n put other h (Chars bytes) w = refl
@@ -72,7 +72,7 @@ replaced_same n put other h (concat t u) w = λ i. concat
     (replaced_same n put other h t (left_true (is_within n t) (is_within n u) w) i) (replaced_same n put other h u (right_true (is_within n t) (is_within n u) w) i)
 replaced_same n put other h (Agg' mark row) w = refl
 
-pub replaced_qual_same : (n : ℕ) (put other : Putting) → SamePut n put other → (q : QQual) → is_qual_within n q ≡ true
+pub replaced_qual_same : (n : ℕ) (put other : Substitution) → SamePut n put other → (q : QQual) → is_qual_within n q ≡ true
     → replaced_in_qual no_aggregate put q ≡ replaced_in_qual no_aggregate other q
 unfolding is_qual_within replaced_in_qual
 replaced_qual_same n put other h True w = refl
@@ -88,10 +88,10 @@ replaced_qual_same n put other h (negated p) w = ap (λ p. negated p) (replaced_
 -- ---- what is put in is within where each put term is
 
 -- terms that name only the first so many variables are put in
-abbrev pub PutsWithin : ℕ → Putting → Type 0
+abbrev pub PutsWithin : ℕ → Substitution → Type 0
 PutsWithin n put = (var attr : ℕ) → is_within n (put var attr) ≡ true
 
-pub replaced_within : (n : ℕ) (put : Putting) → PutsWithin n put → (t : QTerm) → is_within n (replaced no_aggregate put t) ≡ true
+pub replaced_within : (n : ℕ) (put : Substitution) → PutsWithin n put → (t : QTerm) → is_within n (replaced no_aggregate put t) ≡ true
 unfolding is_within replaced
 replaced_within n put h (Int z) = refl
 replaced_within n put h (Chars bytes) = refl
@@ -104,7 +104,7 @@ replaced_within n put h (concat t u) =
     both_true (is_within n (replaced no_aggregate put t)) (is_within n (replaced no_aggregate put u)) (replaced_within n put h t) (replaced_within n put h u)
 replaced_within n put h (Agg' mark row) = refl
 
-pub replaced_qual_within : (n : ℕ) (put : Putting) → PutsWithin n put → (q : QQual) → is_qual_within n (replaced_in_qual no_aggregate put q) ≡ true
+pub replaced_qual_within : (n : ℕ) (put : Substitution) → PutsWithin n put → (q : QQual) → is_qual_within n (replaced_in_qual no_aggregate put q) ≡ true
 unfolding is_qual_within replaced_in_qual
 replaced_qual_within n put h True = refl
 replaced_qual_within n put h (Cmp op t u) =
@@ -117,10 +117,10 @@ replaced_qual_within n put h (either p q) =
 replaced_qual_within n put h (negated p) = replaced_qual_within n put h p
 
 -- the same of a term that names only the first variables, where their terms are within
-abbrev pub FirstWithin : ℕ → ℕ → Putting → Type 0
+abbrev pub FirstWithin : ℕ → ℕ → Substitution → Type 0
 FirstWithin k n put = (var attr : ℕ) → var < k → is_within n (put var attr) ≡ true
 
-pub first_within : (k n : ℕ) (put : Putting) → FirstWithin k n put → (t : QTerm) → is_within k t ≡ true → is_within n (replaced no_aggregate put t) ≡ true
+pub first_within : (k n : ℕ) (put : Substitution) → FirstWithin k n put → (t : QTerm) → is_within k t ≡ true → is_within n (replaced no_aggregate put t) ≡ true
 unfolding is_within replaced
 first_within k n put h (Int z) w = refl
 first_within k n put h (Chars bytes) w = refl
@@ -135,7 +135,7 @@ first_within k n put h (concat t u) w =
     (first_within k n put h t (left_true (is_within k t) (is_within k u) w)) (first_within k n put h u (right_true (is_within k t) (is_within k u) w))
 first_within k n put h (Agg' mark row) w = refl
 
-pub first_qual_within : (k n : ℕ) (put : Putting) → FirstWithin k n put → (q : QQual) → is_qual_within k q ≡ true → is_qual_within n (replaced_in_qual no_aggregate put q) ≡ true
+pub first_qual_within : (k n : ℕ) (put : Substitution) → FirstWithin k n put → (q : QQual) → is_qual_within k q ≡ true → is_qual_within n (replaced_in_qual no_aggregate put q) ≡ true
 unfolding is_qual_within replaced_in_qual
 first_qual_within k n put h True w = refl
 first_qual_within k n put h (Cmp op t u) w =

@@ -1,8 +1,8 @@
 pub mod Halves
 pub mod Replaced
-pub mod Texts
-pub mod TextOf
-pub mod PutIn
+pub mod Expansions
+pub mod ExpansionOf
+pub mod Expanded
 pub mod Scoped
 pub mod Further
 pub mod Fit

@@ -11,12 +11,12 @@ use Rattle.calculus.specs.Tree.{neg, abs, operation, concat, both, either, negat
 abbrev pub without_value : QTerm
 without_value = operation Div (Int (pos 1)) (Int (pos 0))
 
--- what is put in place of an attribute of a variable, both by place
-abbrev pub Putting : Type 0
-Putting = ℕ → ℕ → QTerm
+-- what is substituted for an attribute of a variable, both by place
+abbrev pub Substitution : Type 0
+Substitution = ℕ → ℕ → QTerm
 
 -- the term with these in place of its attributes, and what is made of each of its aggregates in place of that
-unfoldable pub replaced : (QTerm → QTerm) → Putting → QTerm → QTerm
+unfoldable pub replaced : (QTerm → QTerm) → Substitution → QTerm → QTerm
 replaced made put (Int n) = Int n
 replaced made put (Chars bytes) = Chars bytes
 replaced made put (Attr var attr) = put var attr
@@ -27,7 +27,7 @@ replaced made put (concat t u) = concat (replaced made put t) (replaced made put
 replaced made put (Agg' mark row) = made (Agg' mark row)
 
 -- the qualification so: a text constant that is put in is compared as a value, and is no pattern
-unfoldable pub replaced_in_qual : (QTerm → QTerm) → Putting → QQual → QQual
+unfoldable pub replaced_in_qual : (QTerm → QTerm) → Substitution → QQual → QQual
 replaced_in_qual made put True = True
 replaced_in_qual made put (Cmp op t u) = Cmp op (replaced made put t) (replaced made put u)
 replaced_in_qual made put (Like t pattern same) = Like (replaced made put t) pattern same
@@ -36,7 +36,7 @@ replaced_in_qual made put (either p q) = either (replaced_in_qual made put p) (r
 replaced_in_qual made put (negated p) = negated (replaced_in_qual made put p)
 
 -- the target so: its name and its kind stay
-abbrev pub replaced_target : (QTerm → QTerm) → Putting → Target → Target
+abbrev pub replaced_target : (QTerm → QTerm) → Substitution → Target → Target
 replaced_target made put t = record { name = t.name; kind = t.kind; term = replaced made put t.term }
 
 -- in place of an aggregate where none may stand: no value
@@ -44,19 +44,19 @@ abbrev pub no_aggregate : QTerm → QTerm
 no_aggregate t = without_value
 
 -- the variables stand so many places further on
-abbrev pub further : ℕ → Putting
+abbrev pub further : ℕ → Substitution
 further n var attr = Attr (n + var) attr
 
 -- the term, its variables so many places further on
-abbrev pub moved : ℕ → QTerm → QTerm
-moved n t = replaced no_aggregate (further n) t
+abbrev pub shifted : ℕ → QTerm → QTerm
+shifted n t = replaced no_aggregate (further n) t
 
 -- the qualification, its variables so many places further on
-abbrev pub moved_qual : ℕ → QQual → QQual
-moved_qual n q = replaced_in_qual no_aggregate (further n) q
+abbrev pub shifted_qual : ℕ → QQual → QQual
+shifted_qual n q = replaced_in_qual no_aggregate (further n) q
 
 -- the attributes of the only variable; no other is there
-abbrev pub of_only : Putting
+abbrev pub of_only : Substitution
 of_only zero attr = Attr 0 attr
 of_only (suc var) attr = without_value
 

@@ -4,7 +4,7 @@ use Rattle.std.specs.List.{list_all}
 use Rattle.calculus.specs.declared.query.QTerm.{QTerm, Int, Chars, Attr, Agg'}
 use Rattle.calculus.specs.declared.query.QQual.{QQual, True, Cmp, Like}
 use Rattle.calculus.specs.Tree.{neg, abs, operation, concat, both, either, negated}
-use Rattle.view_text.specs.declared.text.Text.{Text}
+use Rattle.view_text.specs.declared.expansion.Expansion.{Expansion}
 
 -- the term names only variables at the first so many places, and holds no aggregate
 unfoldable pub is_within : ℕ → QTerm → Bool
@@ -26,11 +26,11 @@ is_qual_within n (both p q) = is_qual_within n p && is_qual_within n q
 is_qual_within n (either p q) = is_qual_within n p && is_qual_within n q
 is_qual_within n (negated p) = is_qual_within n p
 
--- the terms of a text's attributes so: without terms, it has a variable
+-- the terms of an expansion's attributes so: without terms, it has a variable
 abbrev pub are_within : ℕ → Option (List QTerm) → Bool
 are_within n None = nat_lt 0 n
 are_within n (Some terms) = list_all (is_within n) terms
 
--- a text names only its own variables
-abbrev pub is_scoped : Text → Bool
-is_scoped text = are_within (length text.vars) text.terms && list_all (is_qual_within (length text.vars)) text.conditions
+-- an expansion names only its own variables
+abbrev pub is_scoped : Expansion → Bool
+is_scoped expansion = are_within (length expansion.vars) expansion.terms && list_all (is_qual_within (length expansion.vars)) expansion.conditions

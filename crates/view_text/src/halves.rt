@@ -6,7 +6,7 @@ ghost use Rattle.calculus.specs.declared.query.QQual.{QQual as Qualification, Tr
 ghost use Rattle.view_text.specs.Halves.{all_of, any_of, joined, paired};
 ghost use Rattle.view_text.specs.Join.{join_by};
 
-use crate::parts::{boxed, boxed_both};
+use crate::tree_parts::{boxed, boxed_both};
 use calculus::{OutOfMemory, QQual};
 use std::alloc::Global;
 

@@ -1,22 +1,22 @@
-//! The text of what a variable ranges over, and terms and qualifications with other terms put in.
+//! The expansion of what a variable ranges over, and terms and qualifications with other terms put in.
 #![tactic(auto)]
 
+mod expansion;
+mod expansion_conditions;
 mod halves;
-mod moved;
-mod parts;
 mod permit;
 mod put;
 mod putting;
 mod replaced;
 mod rows;
 mod settled;
-mod text;
-mod text_conditions;
+mod shifted;
+mod tree_parts;
 
+pub use expansion::Expansion;
+pub use expansion_conditions::conditions;
 pub use halves::{all_of, any_of};
-pub use moved::{moved_qual, moved_term};
 pub use permit::permit_condition;
-pub use put::{put_qual, put_term};
-pub use rows::{put_rows, put_whole, rows_text};
-pub use text::Text;
-pub use text_conditions::conditions;
+pub use put::{substituted_qual, substituted_term};
+pub use rows::{rows_expansion, substituted_rows, substituted_whole};
+pub use shifted::{shifted_qual, shifted_term};

@@ -3,9 +3,9 @@
 ghost use Rattle.std.specs.Prelude.{◌≡◌, IfOk};
 ghost use Rattle.view_text.specs.Replaced.{no_aggregate, of_only, replaced_in_qual};
 
-use crate::parts::without_value;
-use crate::putting::Putting;
+use crate::putting::Substitution;
 use crate::replaced::replaced_qual;
+use crate::tree_parts::without_value;
 use calculus::{OutOfMemory, QAgg, QQual, QTerm};
 use std::alloc::Global;
 
@@ -13,7 +13,7 @@ use std::alloc::Global;
 #[derive(Drop)]
 struct OfOnly;
 
-impl Putting for OfOnly {
+impl Substitution for OfOnly {
     ghost put = { λ only. of_only };
 
     ghost made = { λ _. no_aggregate };
@@ -28,7 +28,7 @@ impl Putting for OfOnly {
         }
     }
 
-    fn put_aggregate(&self, alloc: Global, _aggregate: &QAgg) -> Result<QTerm, OutOfMemory> {
+    fn expanded_aggregate(&self, alloc: Global, _aggregate: &QAgg) -> Result<QTerm, OutOfMemory> {
         without_value(alloc)
     }
 }

@@ -1,17 +1,17 @@
-//! Terms, qualifications and targets with the texts of their variables put in.
+//! Terms, qualifications and targets with their variables expanded.
 
 ghost use Rattle.std.specs.Prelude.{◌≡◌, ◌+◌, ◌-◌, ◌≤◌, ◌++◌, true, map, length, IfOk, OnOk};
 ghost use Rattle.std.specs.List.{list_all};
 ghost use Rattle.view_text.specs.Fit.{AreFit};
-ghost use Rattle.view_text.specs.Replaced.{aggregate_at, listed, moved, no_aggregate, replaced, replaced_in_qual, replaced_target};
+ghost use Rattle.view_text.specs.Replaced.{aggregate_at, listed, shifted, no_aggregate, replaced, replaced_in_qual, replaced_target};
 ghost use Rattle.view_text.specs.Scoped.{is_scoped, is_within};
-ghost use Rattle.view_text.specs.Texts.{attr_term, put_from, term_at, texts_vars};
+ghost use Rattle.view_text.specs.Expansions.{attr_term, substituted_from, term_at, expansions_vars};
 
-use crate::Text;
-use crate::moved::moved_term;
-use crate::parts::{boxed, without_value};
-use crate::putting::Putting;
+use crate::Expansion;
+use crate::putting::Substitution;
 use crate::replaced::{replaced_qual, replaced_term};
+use crate::shifted::shifted_term;
+use crate::tree_parts::{boxed, without_value};
 use calculus::{OutOfMemory, QAgg, QQual, QTerm, Target, TryCopy};
 use memory::both;
 use std::alloc::Global;
@@ -28,96 +28,101 @@ fn attribute(var: usize, attr: u8) -> QTerm
 }
 
 /// The term at a place, its variables so many places further on; where there is none, one without value.
-#[tactic(auto, using(crate::proofs::PutText::term_there, crate::proofs::PutText::term_missing, crate::proofs::PutText::one_within))]
+#[tactic(auto, using(crate::proofs::PutExpansion::term_there, crate::proofs::PutExpansion::term_missing, crate::proofs::PutExpansion::one_within))]
 fn put_listed(alloc: Global, by: usize, terms: &[QTerm], place: u8) -> Result<QTerm, OutOfMemory>
     requires { list_all (is_within (256 - by)) terms.now ≡ true }
-    ensures { IfOk result (λ t. t ≡ moved by (term_at terms.now place)) }
+    ensures { IfOk result (λ t. t ≡ shifted by (term_at terms.now place)) }
 {
     match terms.get(place as usize) {
-        Some(term) => moved_term(alloc, by, term),
+        Some(term) => shifted_term(alloc, by, term),
         None => without_value(alloc),
     }
 }
 
-/// The term of a text's attribute, where the text's variables stand from this place on.
-#[tactic(auto, using(crate::proofs::PutText::own_moved, crate::proofs::PutText::none_has_variable, crate::proofs::PutText::listed_moved, crate::proofs::PutText::listed_fit))]
-fn put_own(alloc: Global, from: usize, text: &Text, attr: u8) -> Result<QTerm, OutOfMemory>
-    requires scoped { is_scoped text.now ≡ true }
-    requires fits { from + length text.now.vars ≤ 256 }
-    ensures { IfOk result (λ t. t ≡ moved from (attr_term text.now attr)) }
+/// The term of an expansion's attribute, where the expansion's variables stand from this place on.
+#[tactic(auto, using(crate::proofs::PutExpansion::own_shifted, crate::proofs::PutExpansion::none_has_variable, crate::proofs::PutExpansion::listed_shifted, crate::proofs::PutExpansion::listed_fit))]
+fn put_own(
+    alloc: Global,
+    from: usize,
+    expansion: &Expansion,
+    attr: u8,
+) -> Result<QTerm, OutOfMemory>
+    requires scoped { is_scoped expansion.now ≡ true }
+    requires fits { from + length expansion.now.vars ≤ 256 }
+    ensures { IfOk result (λ t. t ≡ shifted from (attr_term expansion.now attr)) }
 {
-    match &text.terms {
+    match &expansion.terms {
         None => Ok(attribute(from, attr)),
         Some(terms) => put_listed(alloc, from, terms.items(), attr),
     }
 }
 
-/// The term of a variable's attribute, where the texts' variables stand from this place on.
-#[tactic(auto, using(crate::proofs::PutText::put_first, crate::proofs::PutText::put_next, crate::proofs::PutText::fit_first, crate::proofs::PutText::fit_next))]
+/// The term of a variable's attribute, where the expansions' variables stand from this place on.
+#[tactic(auto, using(crate::proofs::PutExpansion::put_first, crate::proofs::PutExpansion::put_next, crate::proofs::PutExpansion::fit_first, crate::proofs::PutExpansion::fit_next))]
 fn put_at(
     alloc: Global,
     from: usize,
-    texts: &[Text],
+    expansions: &[Expansion],
     var: u8,
     attr: u8,
 ) -> Result<QTerm, OutOfMemory>
-    requires { AreFit from texts.now }
-    ensures { IfOk result (λ t. t ≡ put_from from texts.now var attr) }
+    requires { AreFit from expansions.now }
+    ensures { IfOk result (λ t. t ≡ substituted_from from expansions.now var attr) }
 {
-    match texts.split_first() {
+    match expansions.split_first() {
         None => without_value(alloc),
-        Some((text, others)) => {
+        Some((expansion, others)) => {
             if var == 0 {
-                put_own(alloc, from, text, attr)
+                put_own(alloc, from, expansion, attr)
             } else {
-                let behind = from + text.vars.items().len();
+                let behind = from + expansion.vars.items().len();
                 put_at(alloc, behind, others, var - 1, attr)
             }
         }
     }
 }
 
-/// The texts of variables, by their places; no aggregate may stand in what they are put in.
+/// The expansions of variables, by their places; no aggregate may stand in what they are put in.
 #[derive(Drop)]
 pub(crate) struct Texts<'a> {
-    pub(crate) texts: &'a [Text],
+    pub(crate) expansions: &'a [Expansion],
 }
 
-impl Putting for Texts<'_> {
-    ghost put = { λ them. put_from 0 them.texts.now };
+impl Substitution for Texts<'_> {
+    ghost put = { λ them. substituted_from 0 them.expansions.now };
 
     ghost made = { λ _. no_aggregate };
 
-    ghost fits = { λ them. AreFit 0 them.texts.now };
+    ghost fits = { λ them. AreFit 0 them.expansions.now };
 
     fn put_attribute(&self, alloc: Global, var: u8, attr: u8) -> Result<QTerm, OutOfMemory> {
-        put_at(alloc, 0, self.texts, var, attr)
+        put_at(alloc, 0, self.expansions, var, attr)
     }
 
-    fn put_aggregate(&self, alloc: Global, _aggregate: &QAgg) -> Result<QTerm, OutOfMemory> {
+    fn expanded_aggregate(&self, alloc: Global, _aggregate: &QAgg) -> Result<QTerm, OutOfMemory> {
         without_value(alloc)
     }
 }
 
-/// The texts of variables, by their places, and aggregates, by their slots.
+/// The expansions of variables, by their places, and aggregates, by their slots.
 #[derive(Drop)]
 pub(crate) struct Whole<'a> {
-    pub(crate) texts: &'a [Text],
+    pub(crate) expansions: &'a [Expansion],
     pub(crate) aggregates: &'a [QAgg],
 }
 
-impl Putting for Whole<'_> {
-    ghost put = { λ them. put_from 0 them.texts.now };
+impl Substitution for Whole<'_> {
+    ghost put = { λ them. substituted_from 0 them.expansions.now };
 
     ghost made = { λ them. listed them.aggregates.now };
 
-    ghost fits = { λ them. AreFit 0 them.texts.now };
+    ghost fits = { λ them. AreFit 0 them.expansions.now };
 
     fn put_attribute(&self, alloc: Global, var: u8, attr: u8) -> Result<QTerm, OutOfMemory> {
-        put_at(alloc, 0, self.texts, var, attr)
+        put_at(alloc, 0, self.expansions, var, attr)
     }
 
-    fn put_aggregate(&self, alloc: Global, aggregate: &QAgg) -> Result<QTerm, OutOfMemory> {
+    fn expanded_aggregate(&self, alloc: Global, aggregate: &QAgg) -> Result<QTerm, OutOfMemory> {
         aggregate_at(alloc, self.aggregates, aggregate.slot)
     }
 }
@@ -135,28 +140,36 @@ fn aggregate_at(alloc: Global, aggregates: &[QAgg], slot: u16) -> Result<QTerm, 
     }
 }
 
-/// The term over the variables of these texts, which stand one behind the other: the texts' terms
-/// stand in place of its attributes. An attribute that no text has, and an aggregate, become a term
+/// The term over the variables of these expansions, which stand one behind the other: the expansions' terms
+/// stand in place of its attributes. An attribute that no expansion has, and an aggregate, become a term
 /// without value.
-pub fn put_term(alloc: Global, texts: &[Text], t: &QTerm) -> Result<QTerm, OutOfMemory>
-    requires scoped { list_all is_scoped texts.now ≡ true }
-    requires fits { length (texts_vars texts.now) ≤ 256 }
-    ensures { IfOk result (λ made. made ≡ replaced no_aggregate (put_from 0 texts.now) t.now) }
+pub fn substituted_term(
+    alloc: Global,
+    expansions: &[Expansion],
+    t: &QTerm,
+) -> Result<QTerm, OutOfMemory>
+    requires scoped { list_all is_scoped expansions.now ≡ true }
+    requires fits { length (expansions_vars expansions.now) ≤ 256 }
+    ensures { IfOk result (λ made. made ≡ replaced no_aggregate (substituted_from 0 expansions.now) t.now) }
 {
-    replaced_term(alloc, &Texts { texts }, t)
+    replaced_term(alloc, &Texts { expansions }, t)
 }
 
 /// The qualification so.
-pub fn put_qual(alloc: Global, texts: &[Text], q: &QQual) -> Result<QQual, OutOfMemory>
-    requires scoped { list_all is_scoped texts.now ≡ true }
-    requires fits { length (texts_vars texts.now) ≤ 256 }
-    ensures { IfOk result (λ made. made ≡ replaced_in_qual no_aggregate (put_from 0 texts.now) q.now) }
+pub fn substituted_qual(
+    alloc: Global,
+    expansions: &[Expansion],
+    q: &QQual,
+) -> Result<QQual, OutOfMemory>
+    requires scoped { list_all is_scoped expansions.now ≡ true }
+    requires fits { length (expansions_vars expansions.now) ≤ 256 }
+    ensures { IfOk result (λ made. made ≡ replaced_in_qual no_aggregate (substituted_from 0 expansions.now) q.now) }
 {
-    replaced_qual(alloc, &Texts { texts }, q)
+    replaced_qual(alloc, &Texts { expansions }, q)
 }
 
-/// The target with what is put in place of its attributes and aggregates: its name and its kind stay.
-fn put_target<P: Putting>(
+/// The target with what is substituted for its attributes and aggregates: its name and its kind stay.
+fn put_target<P: Substitution>(
     alloc: Global,
     putting: &P,
     target: &Target,
@@ -178,7 +191,7 @@ fn put_target<P: Putting>(
 }
 
 /// Puts the targets so behind those that are there.
-pub(crate) fn put_targets<P: Putting>(
+pub(crate) fn put_targets<P: Substitution>(
     alloc: Global,
     putting: &P,
     targets: &[Target],
@@ -193,19 +206,19 @@ pub(crate) fn put_targets<P: Putting>(
     Ok(())
 }
 
-/// Puts the terms of the targets, with the texts of their variables put in, behind those that are there.
-pub(crate) fn put_terms(
+/// Puts the terms of the targets, with its variables expanded, behind those that are there.
+pub(crate) fn substituted_terms(
     alloc: Global,
-    texts: &[Text],
+    expansions: &[Expansion],
     targets: &[Target],
     made: &mut Vec<QTerm>,
 ) -> Result<(), OutOfMemory>
-    requires scoped { list_all is_scoped texts.now ≡ true }
-    requires fits { length (texts_vars texts.now) ≤ 256 }
-    ensures { OnOk result (made.new.items ≡ made.old.items ++ map (λ t. replaced no_aggregate (put_from 0 texts.now) t.term) targets.now) }
+    requires scoped { list_all is_scoped expansions.now ≡ true }
+    requires fits { length (expansions_vars expansions.now) ≤ 256 }
+    ensures { OnOk result (made.new.items ≡ made.old.items ++ map (λ t. replaced no_aggregate (substituted_from 0 expansions.now) t.term) targets.now) }
 {
     for target in targets {
-        made.push(put_term(alloc, texts, &target.term)?)?;
+        made.push(substituted_term(alloc, expansions, &target.term)?)?;
     }
     Ok(())
 }

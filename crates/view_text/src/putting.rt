@@ -1,4 +1,4 @@
-//! What is put in place of the attributes and aggregates of terms.
+//! What is substituted for the attributes and aggregates of terms.
 
 ghost use Rattle.std.specs.Prelude.{◌≡◌, ℕ, IfOk};
 ghost use Rattle.calculus.specs.Tree.{aggregate as aggregate_term};
@@ -7,9 +7,9 @@ ghost use Rattle.calculus.specs.declared.query.QTerm.{QTerm as Term};
 use calculus::{OutOfMemory, QAgg, QTerm};
 use std::alloc::Global;
 
-/// What is put in place of the attributes and aggregates of terms.
-pub(crate) trait Putting {
-    /// The term that is put in place of an attribute of a variable, both by place.
+/// What is substituted for the attributes and aggregates of terms.
+pub(crate) trait Substitution {
+    /// The term that is substituted for an attribute of a variable, both by place.
     ghost put: { Self → ℕ → ℕ → Term };
 
     /// What is made of an aggregate.
@@ -24,6 +24,6 @@ pub(crate) trait Putting {
         ensures { IfOk result (λ t. t ≡ put self.now var attr) };
 
     /// The term in place of an aggregate.
-    fn put_aggregate(&self, alloc: Global, aggregate: &QAgg) -> Result<QTerm, OutOfMemory>
+    fn expanded_aggregate(&self, alloc: Global, aggregate: &QAgg) -> Result<QTerm, OutOfMemory>
         ensures { IfOk result (λ t. t ≡ made self.now (aggregate_term aggregate.now)) };
 }

@@ -3,8 +3,8 @@
 ghost use Rattle.std.specs.Prelude.{◌≡◌, IfOk};
 ghost use Rattle.view_text.specs.Replaced.{replaced, replaced_in_qual};
 
-use crate::parts::{boxed, boxed_both};
-use crate::putting::Putting;
+use crate::putting::Substitution;
+use crate::tree_parts::{boxed, boxed_both};
 use calculus::{Chars, OutOfMemory, QQual, QTerm};
 use memory::both;
 use std::alloc::Global;
@@ -33,9 +33,9 @@ fn like(alloc: Global, term: QTerm, pattern: &Chars, same: bool) -> Result<QQual
     }
 }
 
-/// The term with what is put in place of its attributes and of its aggregates.
+/// The term with what is substituted for its attributes and of its aggregates.
 #[tactic(auto, using(crate::proofs::ReplacedForms::replaced_int, crate::proofs::ReplacedForms::replaced_chars, crate::proofs::ReplacedForms::replaced_attr, crate::proofs::ReplacedForms::replaced_neg, crate::proofs::ReplacedForms::replaced_abs, crate::proofs::ReplacedForms::replaced_arith, crate::proofs::ReplacedForms::replaced_concat, crate::proofs::ReplacedForms::replaced_agg))]
-pub(crate) fn replaced_term<P: Putting>(
+pub(crate) fn replaced_term<P: Substitution>(
     alloc: Global,
     putting: &P,
     t: &QTerm,
@@ -70,13 +70,13 @@ pub(crate) fn replaced_term<P: Putting>(
                 Err(error) => Err(error),
             }
         }
-        QTerm::Agg(aggregate) => putting.put_aggregate(alloc, aggregate.get()),
+        QTerm::Agg(aggregate) => putting.expanded_aggregate(alloc, aggregate.get()),
     }
 }
 
 /// The qualification so: a text constant that is put in is compared as a value, and is no pattern.
 #[tactic(auto, using(crate::proofs::ReplacedForms::replaced_true, crate::proofs::ReplacedForms::replaced_cmp, crate::proofs::ReplacedForms::replaced_like, crate::proofs::ReplacedForms::replaced_and, crate::proofs::ReplacedForms::replaced_or, crate::proofs::ReplacedForms::replaced_not))]
-pub(crate) fn replaced_qual<P: Putting>(
+pub(crate) fn replaced_qual<P: Substitution>(
     alloc: Global,
     putting: &P,
     q: &QQual,

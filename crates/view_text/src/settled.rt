@@ -5,16 +5,16 @@ ghost use Rattle.std.specs.List.{list_all};
 ghost use Rattle.calculus.specs.Term.{holds, no_aggs};
 ghost use Rattle.calculus.specs.Tree.{negated};
 ghost use Rattle.calculus.specs.declared.query.QQual.{True};
-ghost use Rattle.view_text.specs.TextOf.{settled};
+ghost use Rattle.view_text.specs.ExpansionOf.{settled};
 
-use crate::parts::boxed;
+use crate::tree_parts::boxed;
 use calculus::{OutOfMemory, QQual, RelKey};
 use scalar_eval::{Assigned, holds};
 use std::alloc::Global;
 
 /// Whether a condition holds in which no variable has a row.
 #[tactic(auto, using(crate::proofs::NoTables::without_tables))]
-fn is_so(alloc: Global, condition: &QQual) -> Result<bool, OutOfMemory>
+fn condition_holds(alloc: Global, condition: &QQual) -> Result<bool, OutOfMemory>
     ensures { IfOk result (λ b. b ≡ holds no_aggs condition.now []) }
 {
     let none = Assigned::new(alloc);
@@ -24,11 +24,11 @@ fn is_so(alloc: Global, condition: &QQual) -> Result<bool, OutOfMemory>
 }
 
 /// Whether all of them hold, where no variable has a row.
-fn are_so(alloc: Global, conditions: &[QQual]) -> Result<bool, OutOfMemory>
+fn conditions_hold(alloc: Global, conditions: &[QQual]) -> Result<bool, OutOfMemory>
     ensures { IfOk result (λ b. b ≡ list_all (λ q. holds no_aggs q []) conditions.now) }
 {
     for condition in conditions {
-        if !is_so(alloc, condition)? {
+        if !condition_holds(alloc, condition)? {
             return Ok(false);
         }
     }
@@ -60,7 +60,7 @@ fn known(alloc: Global, holding: bool) -> Result<Vec<QQual>, OutOfMemory>
 
 /// The conditions about these variables; where there is none, no condition if all hold, else one that
 /// never holds.
-#[tactic(auto, unfolding(crate::specs::TextOf::settled))]
+#[tactic(auto, unfolding(crate::specs::ExpansionOf::settled))]
 pub(crate) fn settled(
     alloc: Global,
     vars: &[RelKey],
@@ -71,7 +71,7 @@ pub(crate) fn settled(
     if !vars.is_empty() {
         return Ok(conditions);
     }
-    let holding = are_so(alloc, &conditions);
+    let holding = conditions_hold(alloc, &conditions);
     drop(conditions);
     match holding {
         Ok(holding) => known(alloc, holding),

@@ -3,7 +3,7 @@
 ghost use Rattle.std.specs.Prelude.{◌≡◌, filter, length, map, option_map, IfOk};
 ghost use Rattle.calculus.specs.Database.{entries, entry_at, is_relation, rules_on, permits_on};
 ghost use Rattle.calculus.specs.Keys.{same_key};
-ghost use Rattle.am_traits.specs.Told.{query_at, is_named_by_view};
+ghost use Rattle.base_trait.specs.Known.{query_at, is_named_by_view};
 
 use super::DbLists;
 use crate::look_up::{about, index_keys, on, some_view_names, under};

@@ -6,10 +6,10 @@ ghost use Rattle.calculus.specs.Rows.{set_of};
 ghost use Rattle.calculus.specs.IsDatabase.{IsDatabase};
 
 use super::DbLists;
-use crate::kept::{Indexed, Stored, Viewed};
 use crate::leaving::{leave, leave_base, leave_keys, leave_numbers, leave_with_base};
 use crate::one_relation::{change_rows, restructure};
 use crate::ordered::put_in_order;
+use crate::under_keys::{Indexed, Stored, Viewed};
 use calculus::{
     DbChange, List, Name, OutOfMemory, Permit, Query, RelInfo, RelKey, Row, RowSet, Rule, Spec,
     TryCopy,

@@ -6,12 +6,12 @@ ghost use Rattle.calculus.specs.Database.{relation_at, view_at};
 ghost use Rattle.calculus.specs.Finding.{found};
 ghost use Rattle.calculus.specs.Keys.{same_key, key_of};
 ghost use Rattle.calculus.specs.Stored.{info_at};
-ghost use Rattle.am_traits.specs.Told.{known_at};
+ghost use Rattle.base_trait.specs.Known.{known_at};
 
 use super::DbLists;
 use crate::catalogue::{attribute_attrs, is_named, key_of, relation_attrs};
-use crate::kept::{Stored, Viewed};
 use crate::look_up::under;
+use crate::under_keys::{Stored, Viewed};
 use calculus::{Attr, List, Name, OutOfMemory, RelInfo, RelKey, Spec, TryCopy};
 use memory::both;
 use std::alloc::Global;
@@ -102,7 +102,7 @@ impl DbLists {
     }
 
     /// What is known of the relation, view, index or catalogue under a key.
-    #[tactic(auto, unfolding(am_traits::specs::Told::known_at))]
+    #[tactic(auto, unfolding(base_trait::specs::Known::known_at))]
     pub fn known(&self, alloc: Global, key: &RelKey) -> Result<Option<RelInfo>, OutOfMemory>
         ensures { IfOk result (λ info. info ≡ known_at self.now key.now) }
     {

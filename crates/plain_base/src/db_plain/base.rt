@@ -4,14 +4,14 @@ ghost use Rattle.std.specs.Prelude.{◌≡◌, Some, true, refl};
 ghost use Rattle.std.proofs.Common.{arith, ap};
 ghost use Rattle.calculus.specs.IsDatabase.{IsDatabase};
 ghost use Rattle.calculus.specs.Stored.{rows_at};
-ghost use Rattle.am_traits.specs.InMemory.{asked_in_memory};
-ghost use Rattle.am_traits.specs.Scans.{IsScan, first_place};
+ghost use Rattle.base_trait.specs.InMemory.{asked_in_memory};
+ghost use Rattle.base_trait.specs.Scans.{IsScan, first_place};
 ghost use Rattle.plain_base.specs.Places.{rows_from};
 ghost use Rattle.plain_base.specs.Shown.{database_of};
-ghost use Rattle.plain_base.specs.Laws.{of_told, whole_scan};
+ghost use Rattle.plain_base.specs.Laws.{of_known, whole_scan};
 
 use super::DbPlain;
-use am_traits::{Base, BaseFault};
+use base_trait::{Base, BaseFault};
 use calculus::{DbChange, Name, Permit, Place, Probe, Query, RelInfo, RelKey, Row, Rule};
 use std::alloc::Global;
 
@@ -42,11 +42,11 @@ impl Base for DbPlain {
 
     ghost left = { λ b. rows_from (database_of b) };
 
-    ghost lawful = { λ b db e. of_told IsDatabase (database_of b) db e b.is };
+    ghost lawful = { λ b db e. of_known IsDatabase (database_of b) db e b.is };
 
     ghost own = { λ _ _ is. is };
 
-    ghost scanned = { λ b db key e. of_told (λ db. IsScan (rows_at db key) (rows_from (database_of b) key first_place)) (database_of b) db e (whole_scan (database_of b) key b.is) };
+    ghost scanned = { λ b db key e. of_known (λ db. IsScan (rows_at db key) (rows_from (database_of b) key first_place)) (database_of b) db e (whole_scan (database_of b) key b.is) };
 
     ghost counts_now = { λ _ _ _ _ left. left };
 
@@ -119,7 +119,7 @@ impl Base for DbPlain {
     }
 
     fn apply(&mut self, alloc: Global, change: &DbChange) -> Result<(), BaseFault> {
-        self.lay(alloc, change)?;
+        self.apply_change(alloc, change)?;
         Ok(())
     }
 

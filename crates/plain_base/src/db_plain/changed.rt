@@ -32,13 +32,13 @@ impl DbPlain {
         self.kept_attribute = None;
     }
 
-    /// Lays a lawful change. After want of memory the database is as before.
-    pub fn lay(&mut self, alloc: Global, change: &DbChange) -> Result<(), OutOfMemory>
+    /// Applies a lawful change. After want of memory the database is as before.
+    pub fn apply_change(&mut self, alloc: Global, change: &DbChange) -> Result<(), OutOfMemory>
         requires { IsLawful (database_of self.old) change.now }
         ensures ok { OnOk result (database_of self.new ≡ laid (database_of self.old) change.now) }
         ensures err { OnErr result (database_of self.new ≡ database_of self.old) }
     {
         self.forget();
-        self.lists.lay(alloc, change)
+        self.lists.apply_change(alloc, change)
     }
 }

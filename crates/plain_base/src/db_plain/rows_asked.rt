@@ -5,7 +5,7 @@ ghost use Rattle.std.specs.Option.{ForSome};
 ghost use Rattle.calculus.specs.Database.{relation_at, view_at};
 ghost use Rattle.calculus.specs.Rows.{Ascends, has};
 ghost use Rattle.calculus.specs.Stored.{rows_at};
-ghost use Rattle.am_traits.specs.Scans.{Gave, StaysOver};
+ghost use Rattle.base_trait.specs.Scans.{Gave, StaysOver};
 ghost use Rattle.plain_base.specs.Places.{rows_from};
 ghost use Rattle.plain_base.specs.Shown.{database_of, IsRelationReady, IsAttributeReady, IsReady};
 
@@ -100,7 +100,7 @@ impl DbPlain {
 
     /// How many rows the base relation or catalogue under a key has.
     pub(super) fn row_count(&mut self, alloc: Global, key: &RelKey) -> Result<u32, OutOfMemory>
-        ensures told { IfOk result (λ n. n ≡ length (rows_at (database_of self.old) key.now)) }
+        ensures known { IfOk result (λ n. n ≡ length (rows_at (database_of self.old) key.now)) }
         ensures same { database_of self.new ≡ database_of self.old }
     {
         self.keep_rows(alloc, key)?;
@@ -115,7 +115,7 @@ impl DbPlain {
         key: &RelKey,
         row: &Row,
     ) -> Result<bool, OutOfMemory>
-        ensures told { IfOk result (λ b. b ≡ has (rows_at (database_of self.old) key.now) row.now) }
+        ensures known { IfOk result (λ b. b ≡ has (rows_at (database_of self.old) key.now) row.now) }
         ensures same { database_of self.new ≡ database_of self.old }
     {
         self.keep_rows(alloc, key)?;
@@ -133,7 +133,7 @@ impl DbPlain {
         probe: &Probe,
         at: &mut Place,
     ) -> Result<Option<Row>, OutOfMemory>
-        ensures told { IfOk result (λ answer. Gave probe.now (rows_from (database_of self.old) key.now at.old) (rows_from (database_of self.old) key.now at.new) answer) }
+        ensures known { IfOk result (λ answer. Gave probe.now (rows_from (database_of self.old) key.now at.old) (rows_from (database_of self.old) key.now at.new) answer) }
         ensures over { IfOk result (λ answer. StaysOver probe.now (rows_from (database_of self.old) key.now at.new) answer) }
         ensures same { database_of self.new ≡ database_of self.old }
         ensures err { OnErr result (at.new ≡ at.old) }

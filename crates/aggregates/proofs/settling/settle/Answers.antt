@@ -16,34 +16,34 @@ pub returns-clause-targets : goal.returns-clause-targets
 returns-clause-targets g c = λ db h.
     IfOk-weaker c.tables_of-tables.result _ _
     (λ tables stand. targets_settled db c.args.q.now tables.items (c.requires.numbered db h)
-    (subst (AllStand db tables.items) (ap (map (λ g. g.now)) c.deref.ensures.value ∙ c.in_ok-aggs.ensures) stand)) (c.tables_of-tables.ensures.told db h)
+    (subst (AllStand db tables.items) (ap (map (λ g. g.now)) c.deref.ensures.value ∙ c.in_ok-aggs.ensures) stand)) (c.tables_of-tables.ensures.known db h)
 
 pub returns-clause-qual : goal.returns-clause-qual
 returns-clause-qual g c = λ db h.
     IfOk-weaker c.tables_of-tables.result _ _
     (λ tables stand. qual_settled db c.args.q.now tables.items (c.requires.numbered db h)
-    (subst (AllStand db tables.items) (ap (map (λ g. g.now)) c.deref.ensures.value ∙ c.in_ok-aggs.ensures) stand)) (c.tables_of-tables.ensures.told db h)
+    (subst (AllStand db tables.items) (ap (map (λ g. g.now)) c.deref.ensures.value ∙ c.in_ok-aggs.ensures) stand)) (c.tables_of-tables.ensures.known db h)
 
 pub returns-clause-rows : goal.returns-clause-rows
 returns-clause-rows g c = λ db h.
     IfOk-weaker c.tables_of-tables.result _ _
     (λ tables stand es. rows_settled db c.args.q.now tables.items (c.requires.numbered db h)
-    (subst (AllStand db tables.items) (ap (map (λ g. g.now)) c.deref.ensures.value ∙ c.in_ok-aggs.ensures) stand) es) (c.tables_of-tables.ensures.told db h)
+    (subst (AllStand db tables.items) (ap (map (λ g. g.now)) c.deref.ensures.value ∙ c.in_ok-aggs.ensures) stand) es) (c.tables_of-tables.ensures.known db h)
 
 pub returns-clause-lacks : goal.returns-clause-lacks
 returns-clause-lacks g c = λ db h.
     IfOk-weaker c.tables_of-tables.result _ _
     (λ tables stand es. lacks_settled db c.args.q.now tables.items (c.requires.numbered db h)
-    (subst (AllStand db tables.items) (ap (map (λ g. g.now)) c.deref.ensures.value ∙ c.in_ok-aggs.ensures) stand) es) (c.tables_of-tables.ensures.told db h)
+    (subst (AllStand db tables.items) (ap (map (λ g. g.now)) c.deref.ensures.value ∙ c.in_ok-aggs.ensures) stand) es) (c.tables_of-tables.ensures.known db h)
 
 pub returns-clause-values : goal.returns-clause-values
 returns-clause-values g c = λ db h.
     IfOk-weaker c.tables_of-tables.result _ _
     (λ tables stand e. values_settled db c.args.q.now tables.items (c.requires.numbered db h)
-    (subst (AllStand db tables.items) (ap (map (λ g. g.now)) c.deref.ensures.value ∙ c.in_ok-aggs.ensures) stand) e) (c.tables_of-tables.ensures.told db h)
+    (subst (AllStand db tables.items) (ap (map (λ g. g.now)) c.deref.ensures.value ∙ c.in_ok-aggs.ensures) stand) e) (c.tables_of-tables.ensures.known db h)
 
 pub returns-clause-truth : goal.returns-clause-truth
 returns-clause-truth g c = λ db h.
     IfOk-weaker c.tables_of-tables.result _ _
     (λ tables stand e. truth_settled db c.args.q.now tables.items (c.requires.numbered db h)
-    (subst (AllStand db tables.items) (ap (map (λ g. g.now)) c.deref.ensures.value ∙ c.in_ok-aggs.ensures) stand) e) (c.tables_of-tables.ensures.told db h)
+    (subst (AllStand db tables.items) (ap (map (λ g. g.now)) c.deref.ensures.value ∙ c.in_ok-aggs.ensures) stand) e) (c.tables_of-tables.ensures.known db h)

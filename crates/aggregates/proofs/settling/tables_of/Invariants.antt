@@ -7,7 +7,7 @@ abbrev pub invariant-loop-agg : goal.invariant-loop-agg
 invariant-loop-agg g l = record {
   many : length l.tables.items ≡ l.agg-index;
   ascend : AllAscend l.tables.items;
-  told : (db : Db) → g.B.Base.database l.initial.base ≡ Some db → AllStand db l.tables.items (map (λ g. g.now) (take l.agg-index l.aggs));
+  known : (db : Db) → g.B.Base.database l.initial.base ≡ Some db → AllStand db l.tables.items (map (λ g. g.now) (take l.agg-index l.aggs));
   kept : g.B.Base.database l.base ≡ g.B.Base.database l.initial.base;
   stays : (s : Db) → g.B.Base.schema l.initial.base ≡ Some s → g.B.Base.schema l.base ≡ Some s;
   asked : (b : _) → g.B.Base.asked b l.initial.base → g.B.Base.asked b l.base;

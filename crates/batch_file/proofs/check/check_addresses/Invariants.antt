@@ -7,9 +7,9 @@ use Rattle.batch_file.proofs.check.check_addresses.Given as goal
 
 abbrev pub invariant-loop-k : goal.invariant-loop-k
 invariant-loop-k g l = record {
-  same : IsTrue g.D.Disk.tells → OnlyReads g.D.Disk.seen g.D.Disk.touched g.D.Disk.clock g.D.Disk.left_since l.fn.disk l.disk;
-  lawful : IsTrue g.D.Disk.tells → first_failing (is_lawful (g.D.Disk.seen l.fn.disk)) l.k ≡ None;
-  buffered : IsTrue g.D.Disk.tells → IsBuffered (g.D.Disk.seen l.fn.disk) l.k l.buffer;
+  same : IsTrue g.D.Disk.is_known → OnlyReads g.D.Disk.seen g.D.Disk.touched g.D.Disk.clock g.D.Disk.left_since l.fn.disk l.disk;
+  lawful : IsTrue g.D.Disk.is_known → first_failing (is_lawful (g.D.Disk.seen l.fn.disk)) l.k ≡ None;
+  buffered : IsTrue g.D.Disk.is_known → IsBuffered (g.D.Disk.seen l.fn.disk) l.k l.buffer;
   unwritten : g.D.Disk.history l.disk ≡ g.D.Disk.history l.fn.disk;
   faults : g.D.Disk.faults l.disk ≡ g.D.Disk.faults l.fn.disk;
 }

@@ -6,7 +6,7 @@ use Rattle.batch_file.proofs.committing.commit.Given as goal
 
 abbrev pub invariant-loop-a : goal.invariant-loop-a
 invariant-loop-a g l = record {
-  told : IsTrue g.D.Disk.tells → Collecting g.D.Disk.seen g.D.Disk.touched g.D.Disk.clock g.D.Disk.left_since (take l.a-index l.changes) l.fn.disk l.disk l.batch;
+  known : IsTrue g.D.Disk.is_known → Collecting g.D.Disk.seen g.D.Disk.touched g.D.Disk.clock g.D.Disk.left_since (take l.a-index l.changes) l.fn.disk l.disk l.batch;
   none : l.a-index ≡ 0 → l.disk ≡ l.fn.disk;
   size : l.batch.count ≡ l.a-index;
   made : CameSo (g.D.Disk.history l.fn.disk) (g.D.Disk.history l.disk) (Gathers l.batch (take l.a-index l.changes));

@@ -7,8 +7,8 @@ use Rattle.batch_file.proofs.redo.place_all.Given as goal
 
 abbrev pub invariant-loop-k : goal.invariant-loop-k
 invariant-loop-k g l = record {
-  told : IsTrue g.D.Disk.tells → Placing g.D.Disk.seen g.D.Disk.touched g.D.Disk.clock g.D.Disk.left_since l.count l.fn.disk l.disk l.k;
-  buffered : IsTrue g.D.Disk.tells → IsBuffered (g.D.Disk.seen l.fn.disk) l.k l.buffer;
+  known : IsTrue g.D.Disk.is_known → Placing g.D.Disk.seen g.D.Disk.touched g.D.Disk.clock g.D.Disk.left_since l.count l.fn.disk l.disk l.k;
+  buffered : IsTrue g.D.Disk.is_known → IsBuffered (g.D.Disk.seen l.fn.disk) l.k l.buffer;
   made : CameSo (g.D.Disk.history l.fn.disk) (g.D.Disk.history l.disk) (Places l.k);
   faults : g.D.Disk.faults l.disk ≡ g.D.Disk.faults l.fn.disk;
 }

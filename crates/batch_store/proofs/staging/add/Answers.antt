@@ -1,17 +1,17 @@
 use Rattle.std.proofs.Common.{sym, ◌∙◌, refl, inl, arith}
 use Rattle.batch_file.specs.Staged.{size_of, staged}
 use Rattle.batch_file.proofs.Outside.{apart_starts}
-use Rattle.batch_store.proofs.Stands.{standing_added, numbered_added, below_added, noted_so, staged_length, kept_promise}
+use Rattle.batch_store.proofs.Stands.{recovered_added, numbered_added, below_added, noted_so, staged_length, kept_promise}
 use Rattle.batch_store.proofs.staging.add.Goals as goal
 
 pub returns-then-k-clause-crash : goal.returns-then-k-clause-crash
-returns-then-k-clause-crash g c = λ told.
-    let here = apart_starts g.D.Disk.seen g.D.Disk.touched g.D.Disk.clock g.D.Disk.left_since c.args.disk.now (λ m left. g.met.D.Disk.only_now c.args.disk.now m told left) in
+returns-then-k-clause-crash g c = λ known.
+    let here = apart_starts g.D.Disk.seen g.D.Disk.touched g.D.Disk.clock g.D.Disk.left_since c.args.disk.now (λ m left. g.met.D.Disk.only_now c.args.disk.now m known left) in
     here.run
 
 pub returns-in-Ok-clause-page : goal.returns-in-Ok-clause-page
-returns-in-Ok-clause-page g c = λ told.
-    standing_added (g.D.Disk.seen c.args.disk.now) (g.D.Disk.seen c.add.new.disk) c.args.batch.now c.add.new.self c.args.a c.args.page.now c.requires.place (c.add.ensures.change told).elsewhere (c.in-Ok.ensures.added told)
+returns-in-Ok-clause-page g c = λ known.
+    recovered_added (g.D.Disk.seen c.args.disk.now) (g.D.Disk.seen c.add.new.disk) c.args.batch.now c.add.new.self c.args.a c.args.page.now c.requires.place (c.add.ensures.change known).elsewhere (c.in-Ok.ensures.added known)
 
 pub returns-in-Ok-clause-below : goal.returns-in-Ok-clause-below
 returns-in-Ok-clause-below g c =
@@ -20,18 +20,18 @@ returns-in-Ok-clause-below g c =
     c.requires.below c.in-Ok.ensures.count
 
 pub returns-in-Ok-clause-numbered : goal.returns-in-Ok-clause-numbered
-returns-in-Ok-clause-numbered g c = λ told.
+returns-in-Ok-clause-numbered g c = λ known.
     let updates = kept_promise c.insert.result _ (sym c.is_err.ensures.value ∙ c.if-is_err.false) c.insert.ensures.updates in
     let m = g.D.Disk.seen c.args.disk.now in
     let size = c.count-k.ensures ∙ sym (staged_length m c.args.batch.now) in
     numbered_added c.args.numbers.now c.insert.new.self (staged m c.args.batch.now) (staged (g.D.Disk.seen c.add.new.disk) c.add.new.self) c.args.a c.args.page.now
-    (noted_so c.args.numbers.now c.insert.new.self c.args.a c.count-k.result _ size updates.0) (c.requires.numbered told) (c.in-Ok.ensures.added told)
+    (noted_so c.args.numbers.now c.insert.new.self c.args.a c.count-k.result _ size updates.0) (c.requires.numbered known) (c.in-Ok.ensures.added known)
 
 pub returns-then-k-clause-shut : goal.returns-then-k-clause-shut
 returns-then-k-clause-shut g c = c.requires.shut
 
 pub returns-then-k-clause-change : goal.returns-then-k-clause-change
-returns-then-k-clause-change g c = λ told. record { elsewhere = λ b other. refl; touches = λ b touched. inl touched }
+returns-then-k-clause-change g c = λ known. record { elsewhere = λ b other. refl; touches = λ b touched. inl touched }
 
 pub returns-then-k-clause-cause : goal.returns-then-k-clause-cause
 returns-then-k-clause-cause g c = record { later = omega arith; caused = refl }

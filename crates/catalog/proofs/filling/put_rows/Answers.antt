@@ -9,13 +9,13 @@ returns-in_err-change-clause-err c = on_err c.from_residual.result refl
 
 pub returns-clause-lawful : goal.returns-clause-lawful
 returns-clause-lawful c =
-    subst (λ change. IfOk c.lay_lawful.result (λ fit. (fit ≡ true) ↔ IsLawful (database_of c.args.plain.now) change)) c.in_ok-change.ensures c.lay_lawful.ensures.lawful
+    subst (λ change. IfOk c.apply_lawful.result (λ fit. (fit ≡ true) ↔ IsLawful (database_of c.args.plain.now) change)) c.in_ok-change.ensures c.apply_lawful.ensures.lawful
 
 pub returns-clause-laid : goal.returns-clause-laid
 returns-clause-laid c =
     subst
-    (λ change. IfOk c.lay_lawful.result (λ fit. database_of c.lay_lawful.new.plain ≡ (if fit then laid (database_of c.args.plain.now) change else database_of c.args.plain.now)))
-    c.in_ok-change.ensures c.lay_lawful.ensures.laid
+    (λ change. IfOk c.apply_lawful.result (λ fit. database_of c.apply_lawful.new.plain ≡ (if fit then laid (database_of c.args.plain.now) change else database_of c.args.plain.now)))
+    c.in_ok-change.ensures c.apply_lawful.ensures.laid
 
 pub returns-clause-err : goal.returns-clause-err
-returns-clause-err c = c.lay_lawful.ensures.err
+returns-clause-err c = c.apply_lawful.ensures.err

@@ -12,23 +12,23 @@ pub returns-in_err-entries-clause-cause : goal.returns-in_err-entries-clause-cau
 returns-in_err-entries-clause-cause g c =
     cause_carried (g.S.PageStore.pages c.args.store.now) (g.S.PageStore.pages c.args.store.now) (NoChain 5 most_pages) NoCatalogueIn
     (g.S.PageStore.faults c.args.store.now) (g.S.PageStore.faults c.args.store.now) (g.S.PageStore.faults c.rows_in.new.store) c.in_err-entries.field-0.0 (omega arith)
-    (λ a at m told. no_entries m a (at m told)) c.in_err-entries.ensures.cause c.from_residual.result c.from_residual.ensures.1
+    (λ a at m known. no_entries m a (at m known)) c.in_err-entries.ensures.cause c.from_residual.result c.from_residual.ensures.1
 
 pub returns-clause-cause : goal.returns-clause-cause
 returns-clause-cause g c =
     cause_on (g.S.PageStore.pages c.args.store.now) (g.S.PageStore.pages c.rows_in.new.store) NoCatalogueIn NoCatalogueIn
     (g.S.PageStore.faults c.args.store.now) (g.S.PageStore.faults c.rows_in.new.store) (g.S.PageStore.faults c.behind_entries.new.store) c.behind_entries.result c.in_ok-entries.ensures.cause.caused
-    (λ a at m told. at m (c.in_ok-entries.ensures.same ∙ told)) c.behind_entries.ensures.cause
+    (λ a at m known. at m (c.in_ok-entries.ensures.same ∙ known)) c.behind_entries.ensures.cause
 
 pub returns-in_err-entries-clause-reads : goal.returns-in_err-entries-clause-reads
-returns-in_err-entries-clause-reads g c m all told has =
-    rises_less (length has.entries) all _ _ (let e = has.in_all in omega (arith, e)) (c.rows_in.ensures.reads m has.entries told has.has_entries)
+returns-in_err-entries-clause-reads g c m all known has =
+    rises_less (length has.entries) all _ _ (let e = has.in_all in omega (arith, e)) (c.rows_in.ensures.reads m has.entries known has.has_entries)
 
 pub returns-clause-reads : goal.returns-clause-reads
-returns-clause-reads g c m all told has =
+returns-clause-reads g c m all known has =
     rises_as _ all _ _ has.in_all
-    (then_rises (length has.entries) (length has.columns + length has.parts) _ _ _ (c.rows_in.ensures.reads m has.entries told has.has_entries)
-    (c.behind_entries.ensures.reads m has.columns has.parts (c.in_ok-entries.ensures.same ∙ told) has.has_columns has.has_parts))
+    (then_rises (length has.entries) (length has.columns + length has.parts) _ _ _ (c.rows_in.ensures.reads m has.entries known has.has_entries)
+    (c.behind_entries.ensures.reads m has.columns has.parts (c.in_ok-entries.ensures.same ∙ known) has.has_columns has.has_parts))
 
 pub returns-clause-came : goal.returns-clause-came
 returns-clause-came g c = λ s came. c.behind_entries.ensures.came s (c.rows_in.ensures.came s came)

@@ -29,10 +29,10 @@ returns-in-Rows-clause-made g c m db is may =
 pub returns-in-Rows-clause-cause : goal.returns-in-Rows-clause-cause
 returns-in-Rows-clause-cause g c =
     let e : c.args.change.now ≡ Rows c.in-Rows.rel c.items.result.now c.items-in-Rows.result.now = cc (c.in-Rows.is, c.items.ensures, c.items-in-Rows.ensures) in
-    let told = g.S.PageStore.pages c.args.store.now in
+    let known = g.S.PageStore.pages c.args.store.now in
     let start = g.S.PageStore.faults c.args.store.now in
     let none_may = NoneMayTake (database_of c.args.plain.now) (files_of c.args.files.now) in
-    cause_on told told (none_may (Rows c.in-Rows.rel c.items.result.now c.items-in-Rows.result.now)) (none_may c.args.change.now) start start (g.S.PageStore.faults c.change_relation.new.store) c.change_relation.result refl
+    cause_on known known (none_may (Rows c.in-Rows.rel c.items.result.now c.items-in-Rows.result.now)) (none_may c.args.change.now) start start (g.S.PageStore.faults c.change_relation.new.store) c.change_relation.result refl
     (λ a none m is db may. none m is db (subst (λ (x : DbChange). MayTake (database_of c.args.plain.now) db (files_of c.args.files.now) x m) e may)) c.change_relation.ensures.cause
 
 pub make_relation-requires : goal.make_relation-requires
@@ -49,8 +49,8 @@ returns-in-Create-clause-made g c m db is may =
 pub returns-in-Create-clause-cause : goal.returns-in-Create-clause-cause
 returns-in-Create-clause-cause g c =
     let e : c.args.change.now ≡ Create c.in-Create.info c.items-in-Create.result.now = cc (c.in-Create.is, c.items-in-Create.ensures) in
-    let told = g.S.PageStore.pages c.args.store.now in
+    let known = g.S.PageStore.pages c.args.store.now in
     let start = g.S.PageStore.faults c.args.store.now in
     let none_may = NoneMayTake (database_of c.args.plain.now) (files_of c.args.files.now) in
-    cause_on told told (none_may (Create c.in-Create.info c.items-in-Create.result.now)) (none_may c.args.change.now) start start (g.S.PageStore.faults c.make_relation.new.store) c.make_relation.result refl
+    cause_on known known (none_may (Create c.in-Create.info c.items-in-Create.result.now)) (none_may c.args.change.now) start start (g.S.PageStore.faults c.make_relation.new.store) c.make_relation.result refl
     (λ a none m is db may. none m is db (subst (λ (x : DbChange). MayTake (database_of c.args.plain.now) db (files_of c.args.files.now) x m) e may)) c.make_relation.ensures.cause

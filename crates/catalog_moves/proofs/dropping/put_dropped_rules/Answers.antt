@@ -14,7 +14,7 @@ use Rattle.catalog_moves.proofs.dropping.put_dropped_rules.Goals as goal
 
 pub returns-clause-rows : goal.returns-clause-rows
 returns-clause-rows c none =
-    let gone = c.as_slice.ensures.value ∙ c.rules_of-gone.ensures ∙ ap (filter (λ (x : Rule). has_number c.args.numbers.now x.number)) c.in_ok-all.ensures.told in
+    let gone = c.as_slice.ensures.value ∙ c.rules_of-gone.ensures ∙ ap (filter (λ (x : Rule). has_number c.args.numbers.now x.number)) c.in_ok-all.ensures.known in
     let fits = subst (λ (xs : List Rule). AllByRecursion (λ (x : Rule). (rule most_tree_levels).Fits x) xs) (sym gone)
     (all_filter (λ (x : Rule). (rule most_tree_levels).Fits x) _ _ (rules_fit _ c.requires c.args.rel.now)) in
     parts_alone c.put_rules.result c.args.rows.now (record { entries = c.args.rows.now.entries; columns = c.args.rows.now.columns; parts = c.put_rules.new.rows }) _ none refl refl

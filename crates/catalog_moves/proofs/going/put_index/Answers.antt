@@ -8,7 +8,7 @@ pub returns-in-Some-clause-came : goal.returns-in-Some-clause-came
 returns-in-Some-clause-came c =
     let p = c.args.place.now in
     subst (λ (o : Option RelInfo). OnOk c.put_entry.result (Came c.args.rows.now.items c.put_entry.new.rows.items (map entry_bytes (elim o [ None ↦ [] | Some info ↦ entry_with p.file p.base 0 0 info ∷ [] ]))))
-    (sym (sym c.in_ok-info.ensures.told ∙ c.in-Some.is)) c.put_entry.ensures
+    (sym (sym c.in_ok-info.ensures.known ∙ c.in-Some.is)) c.put_entry.ensures
 
 pub returns-in-Some-clause-same : goal.returns-in-Some-clause-same
 returns-in-Some-clause-same c = c.in_ok-info.ensures.same

@@ -18,12 +18,12 @@ returns-in-Some-clause-parts c = c.put_sort.ensures.parts
 pub returns-in-Some-clause-entries : goal.returns-in-Some-clause-entries
 returns-in-Some-clause-entries c =
     subst (λ is. OnOk c.put_sort.result (Came c.args.rows.now.entries.items c.put_sort.new.rows.entries.items (map entry_bytes (map (λ i. entry_with c.args.place.now.file c.args.place.now.base (primary_of c.args.sort) (used_of c.args.sort c.args.place.now.used) i) is))))
-    (sym (known_goes c.args.sort c.args.rels.now (files_of c.args.files.now) (database_of c.args.plain.now) c.args.place.now c.in-Some.info (sym c.goes.ensures ∙ c.if-not-goes.false) (sym c.in_ok-info.ensures.told ∙ c.in-Some.is))) c.put_sort.ensures.entries
+    (sym (known_goes c.args.sort c.args.rels.now (files_of c.args.files.now) (database_of c.args.plain.now) c.args.place.now c.in-Some.info (sym c.goes.ensures ∙ c.if-not-goes.false) (sym c.in_ok-info.ensures.known ∙ c.in-Some.is))) c.put_sort.ensures.entries
 
 pub returns-in-None-clause-entries : goal.returns-in-None-clause-entries
 returns-in-None-clause-entries c =
     subst (λ is. Came c.args.rows.now.entries.items c.args.rows.now.entries.items (map entry_bytes (map (λ i. entry_with c.args.place.now.file c.args.place.now.base (primary_of c.args.sort) (used_of c.args.sort c.args.place.now.used) i) is)))
-    (sym (unknown_goes c.args.sort c.args.rels.now (files_of c.args.files.now) (database_of c.args.plain.now) c.args.place.now (sym c.goes.ensures ∙ c.if-not-goes.false) (sym c.in_ok-info.ensures.told ∙ c.in-None.is))) (came_none _ _ refl)
+    (sym (unknown_goes c.args.sort c.args.rels.now (files_of c.args.files.now) (database_of c.args.plain.now) c.args.place.now (sym c.goes.ensures ∙ c.if-not-goes.false) (sym c.in_ok-info.ensures.known ∙ c.in-None.is))) (came_none _ _ refl)
 
 pub returns-then-not-goes-clause-entries : goal.returns-then-not-goes-clause-entries
 returns-then-not-goes-clause-entries c =
@@ -32,12 +32,12 @@ returns-then-not-goes-clause-entries c =
 pub returns-in-Some-clause-columns : goal.returns-in-Some-clause-columns
 returns-in-Some-clause-columns c =
     subst (λ is. OnOk c.put_sort.result (Came c.args.rows.now.columns.items c.put_sort.new.rows.columns.items (map column_bytes (flat_map (λ i. columns_from c.args.place.now.file 0 i.attrs) is))))
-    (sym (known_goes c.args.sort c.args.rels.now (files_of c.args.files.now) (database_of c.args.plain.now) c.args.place.now c.in-Some.info (sym c.goes.ensures ∙ c.if-not-goes.false) (sym c.in_ok-info.ensures.told ∙ c.in-Some.is))) c.put_sort.ensures.columns
+    (sym (known_goes c.args.sort c.args.rels.now (files_of c.args.files.now) (database_of c.args.plain.now) c.args.place.now c.in-Some.info (sym c.goes.ensures ∙ c.if-not-goes.false) (sym c.in_ok-info.ensures.known ∙ c.in-Some.is))) c.put_sort.ensures.columns
 
 pub returns-in-None-clause-columns : goal.returns-in-None-clause-columns
 returns-in-None-clause-columns c =
     subst (λ is. Came c.args.rows.now.columns.items c.args.rows.now.columns.items (map column_bytes (flat_map (λ i. columns_from c.args.place.now.file 0 i.attrs) is)))
-    (sym (unknown_goes c.args.sort c.args.rels.now (files_of c.args.files.now) (database_of c.args.plain.now) c.args.place.now (sym c.goes.ensures ∙ c.if-not-goes.false) (sym c.in_ok-info.ensures.told ∙ c.in-None.is))) (came_none _ _ refl)
+    (sym (unknown_goes c.args.sort c.args.rels.now (files_of c.args.files.now) (database_of c.args.plain.now) c.args.place.now (sym c.goes.ensures ∙ c.if-not-goes.false) (sym c.in_ok-info.ensures.known ∙ c.in-None.is))) (came_none _ _ refl)
 
 pub returns-then-not-goes-clause-columns : goal.returns-then-not-goes-clause-columns
 returns-then-not-goes-clause-columns c =

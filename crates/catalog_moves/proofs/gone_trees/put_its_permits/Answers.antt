@@ -12,6 +12,6 @@ use Rattle.catalog_moves.proofs.gone_trees.put_its_permits.Goals as goal
 
 pub returns-clause-came : goal.returns-clause-came
 returns-clause-came c =
-    let all = c.as_slice.ensures.value ∙ c.in_ok-all.ensures.told in
+    let all = c.as_slice.ensures.value ∙ c.in_ok-all.ensures.known in
     subst (λ (xs : List Permit). OnOk c.put_permits.result (CameParts c.args.rows.now.items c.put_permits.new.rows.items (flat_map (λ (r : Permit). parts_from c.args.place.now.file of_permit r.number 0 (cut (tree_bytes permit r))) xs))) all
     (c.put_permits.ensures (subst (λ (xs : List Permit). AllByRecursion (λ (r : Permit). (permit most_tree_levels).Fits r) xs) (sym all) (permits_fit _ c.requires c.args.place.now.key)))

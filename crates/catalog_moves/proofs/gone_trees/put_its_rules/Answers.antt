@@ -12,6 +12,6 @@ use Rattle.catalog_moves.proofs.gone_trees.put_its_rules.Goals as goal
 
 pub returns-clause-came : goal.returns-clause-came
 returns-clause-came c =
-    let all = c.as_slice.ensures.value ∙ c.in_ok-all.ensures.told in
+    let all = c.as_slice.ensures.value ∙ c.in_ok-all.ensures.known in
     subst (λ (xs : List Rule). OnOk c.put_rules.result (CameParts c.args.rows.now.items c.put_rules.new.rows.items (flat_map (λ (r : Rule). parts_from c.args.place.now.file of_rule r.number 0 (cut (tree_bytes rule r))) xs))) all
     (c.put_rules.ensures (subst (λ (xs : List Rule). AllByRecursion (λ (r : Rule). (rule most_tree_levels).Fits r) xs) (sym all) (rules_fit _ c.requires c.args.place.now.key)))

@@ -11,11 +11,11 @@ use Rattle.catalog_moves.proofs.gone_trees.put_query.Goals as goal
 
 pub returns-in-Some-clause-came : goal.returns-in-Some-clause-came
 returns-in-Some-clause-came c =
-    let told = sym c.in_ok-query.ensures.told ∙ c.in-Some.is in
-    subst (λ (o : Option Query). OnOk c.put_tree.result (CameParts c.args.rows.now.items c.put_tree.new.rows.items (elim o [ None ↦ [] | Some q ↦ parts_from c.args.place.now.file of_view 0 0 (cut (tree_bytes query q)) ]))) (sym told)
-    (c.put_tree.ensures (query_fits _ c.requires c.args.place.now.key c.in-Some.query told))
+    let known = sym c.in_ok-query.ensures.known ∙ c.in-Some.is in
+    subst (λ (o : Option Query). OnOk c.put_tree.result (CameParts c.args.rows.now.items c.put_tree.new.rows.items (elim o [ None ↦ [] | Some q ↦ parts_from c.args.place.now.file of_view 0 0 (cut (tree_bytes query q)) ]))) (sym known)
+    (c.put_tree.ensures (query_fits _ c.requires c.args.place.now.key c.in-Some.query known))
 
 pub returns-in-None-clause-came : goal.returns-in-None-clause-came
 returns-in-None-clause-came c =
-    let told = sym c.in_ok-query.ensures.told ∙ c.in-None.is in
-    subst (λ (o : Option Query). CameParts c.args.rows.now.items c.args.rows.now.items (elim o [ None ↦ [] | Some q ↦ parts_from c.args.place.now.file of_view 0 0 (cut (tree_bytes query q)) ])) (sym told) (parts_none _ _ refl)
+    let known = sym c.in_ok-query.ensures.known ∙ c.in-None.is in
+    subst (λ (o : Option Query). CameParts c.args.rows.now.items c.args.rows.now.items (elim o [ None ↦ [] | Some q ↦ parts_from c.args.place.now.file of_view 0 0 (cut (tree_bytes query q)) ])) (sym known) (parts_none _ _ refl)

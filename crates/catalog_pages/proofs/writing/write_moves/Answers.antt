@@ -5,7 +5,7 @@ use Rattle.stored_database.specs.Catalogue.{most_pages}
 use Rattle.catalog_pages.specs.Ends.{NoCatalogue}
 use Rattle.catalog_pages.proofs.Files.{same_pages}
 use Rattle.catalog_pages.proofs.Moved.{all_written}
-use Rattle.catalog_pages.proofs.Told.{first_fault, second_fault, third_fault}
+use Rattle.catalog_pages.proofs.Known.{first_fault, second_fault, third_fault}
 use Rattle.catalog_pages.proofs.writing.write_moves.Goals as goal
 
 pub returns-in_err-entries-clause-cause : goal.returns-in_err-entries-clause-cause
@@ -21,7 +21,7 @@ returns-in_err-columns-clause-cause g c =
     let mid = g.S.PageStore.pages c.write_file.new.store in
     cause_carried old mid (NoChainTo 6 most_pages c.args.ends.columns) (NoCatalogue c.args.ends) (g.S.PageStore.faults c.args.store.now) (g.S.PageStore.faults c.write_file.new.store)
     (g.S.PageStore.faults c.write_file-2.new.store) c.in_err-columns.field-0.0 c.in_ok-entries.ensures.cause.caused
-    (second_fault c.args.ends old mid (λ m is. (let a = c.in_ok-entries.ensures.rewritten m is in (a.image, a.told_still, same_pages 5 6 m a.image a.elsewhere (λ e. omega (arith, e))))))
+    (second_fault c.args.ends old mid (λ m is. (let a = c.in_ok-entries.ensures.rewritten m is in (a.image, a.still_known, same_pages 5 6 m a.image a.elsewhere (λ e. omega (arith, e))))))
     c.in_err-columns.ensures.cause c.from_residual-in_err-columns.result c.from_residual-in_err-columns.ensures.1
 
 pub returns-in_err-parts-clause-cause : goal.returns-in_err-parts-clause-cause
@@ -32,8 +32,8 @@ returns-in_err-parts-clause-cause g c =
     (g.S.PageStore.faults c.write_file-3.new.store) c.in_err-parts.field-0.0 (c.in_ok-columns.ensures.cause.caused ∙ c.in_ok-entries.ensures.cause.caused)
     (third_fault c.args.ends old mid (λ m is. (
     let a = c.in_ok-entries.ensures.rewritten m is in
-    let b = c.in_ok-columns.ensures.rewritten a.image a.told_still in
-    (b.image, b.told_still, same_pages 6 7 a.image b.image b.elsewhere (λ e. omega (arith, e)) ∙ same_pages 5 7 m a.image a.elsewhere (λ e. omega (arith, e))))))
+    let b = c.in_ok-columns.ensures.rewritten a.image a.still_known in
+    (b.image, b.still_known, same_pages 6 7 a.image b.image b.elsewhere (λ e. omega (arith, e)) ∙ same_pages 5 7 m a.image a.elsewhere (λ e. omega (arith, e))))))
     c.in_err-parts.ensures.cause c.from_residual-in_err-parts.result c.from_residual-in_err-parts.ensures.1
 
 pub returns-clause-cause : goal.returns-clause-cause
@@ -44,8 +44,8 @@ returns-clause-cause g c =
 pub returns-clause-written : goal.returns-clause-written
 returns-clause-written g c m cat going coming is ends holds changes stands are =
     let a = c.in_ok-entries.ensures.rewritten m is in
-    let b = c.in_ok-columns.ensures.rewritten a.image a.told_still in
-    let d = c.in_ok-parts.ensures.rewritten b.image b.told_still in
+    let b = c.in_ok-columns.ensures.rewritten a.image a.still_known in
+    let d = c.in_ok-parts.ensures.rewritten b.image b.still_known in
     all_written c.args.ends (record { entries = c.in_ok-entries.entries; columns = c.in_ok-columns.columns; parts = c.in_ok-parts.parts }) c.args.moves.now m
     (g.S.PageStore.pages c.write_file-3.new.store) cat going coming
     (record {

@@ -5,9 +5,9 @@ use Rattle.change_laws.proofs.Exactly.{fits_exactly}
 use Rattle.change_check.proofs.BySchema.{known_before}
 use Rattle.change_check.proofs.checking.fit_change.Goals as goal
 
-pub returns-clause-told : goal.returns-clause-told
-returns-clause-told g c = λ db e.
-    subst (λ (b : Bool). (b ≡ true) ↔ IsLawful db c.args.change.now) (sym (c.in_ok-fit.ensures.told db (c.in_ok-_entries.ensures.kept ∙ e)))
+pub returns-clause-known : goal.returns-clause-known
+returns-clause-known g c = λ db e.
+    subst (λ (b : Bool). (b ≡ true) ↔ IsLawful db c.args.change.now) (sym (c.in_ok-fit.ensures.known db (c.in_ok-_entries.ensures.kept ∙ e)))
     (fits_exactly db c.args.change.now (g.B.Base.lawful c.args.base.now db (g.B.Base.own c.args.base.now db e)))
 
 pub returns-clause-by_schema : goal.returns-clause-by_schema

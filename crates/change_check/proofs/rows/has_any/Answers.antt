@@ -11,18 +11,18 @@ loop-row-preserved g c = record {
   so_far = λ db h.
       let on : c.in_ok-there.there ≡ false = cc (c.if-there.false) in
       list_any_more (has (rows_at db c.args.rel.now)) c.args.rows.now c.loop-row.row-index c.row-item.result c.loop-row-test.true
-      ∙ (λ i. c.loop-row.invariant.so_far db h i || (ap (has (rows_at db c.args.rel.now)) (sym c.row-item.is) ∙ sym (c.in_ok-there.ensures.told db (c.loop-row.invariant.kept ∙ h)) ∙ on) i);
+      ∙ (λ i. c.loop-row.invariant.so_far db h i || (ap (has (rows_at db c.args.rel.now)) (sym c.row-item.is) ∙ sym (c.in_ok-there.ensures.known db (c.loop-row.invariant.kept ∙ h)) ∙ on) i);
   kept = c.in_ok-there.ensures.kept ∙ c.loop-row.invariant.kept;
   stays = λ s h. c.in_ok-there.ensures.stays s (c.loop-row.invariant.stays s h);
   asked = λ b was. c.in_ok-there.ensures.asked b (c.loop-row.invariant.asked b was);
   faults = c.in_ok-there.ensures.cause.caused ∙ c.loop-row.invariant.faults;
 }
 
-pub returns-then-there-clause-told : goal.returns-then-there-clause-told
-returns-then-there-clause-told g c = λ db h.
+pub returns-then-there-clause-known : goal.returns-then-there-clause-known
+returns-then-there-clause-known g c = λ db h.
     let off : c.in_ok-there.there ≡ true = cc (c.if-there.true) in
     sym (list_any_at (has (rows_at db c.args.rel.now)) c.args.rows.now c.loop-row.row-index c.row-item.result c.loop-row-test.true
-    (ap (has (rows_at db c.args.rel.now)) (sym c.row-item.is) ∙ sym (c.in_ok-there.ensures.told db (c.loop-row.invariant.kept ∙ h)) ∙ off))
+    (ap (has (rows_at db c.args.rel.now)) (sym c.row-item.is) ∙ sym (c.in_ok-there.ensures.known db (c.loop-row.invariant.kept ∙ h)) ∙ off))
 
-pub returns-clause-told : goal.returns-clause-told
-returns-clause-told g c = λ db h. sym (c.loop-row.invariant.so_far db h) ∙ ap (list_any (has (rows_at db c.args.rel.now))) (take_all c.loop-row.row-index c.args.rows.now c.loop-row-test.false)
+pub returns-clause-known : goal.returns-clause-known
+returns-clause-known g c = λ db h. sym (c.loop-row.invariant.so_far db h) ∙ ap (list_any (has (rows_at db c.args.rel.now))) (take_all c.loop-row.row-index c.args.rows.now c.loop-row-test.false)

@@ -12,6 +12,6 @@ loop-row-preserved g c = record {
   later = c.in_ok-is_there.ensures.cause.caused ∙ c.loop-row.invariant.later;
   so_far = λ db e.
       c.in_ok-put_if.ensures
-      ∙ (λ j. c.loop-row.invariant.so_far db e j ++ cond (not (c.in_ok-is_there.ensures.told db (c.loop-row.invariant.kept ∙ e) j)) (c.in-Some.row ∷ []) [])
+      ∙ (λ j. c.loop-row.invariant.so_far db e j ++ cond (not (c.in_ok-is_there.ensures.known db (c.loop-row.invariant.kept ∙ e) j)) (c.in-Some.row ∷ []) [])
       ∙ sym (filter-append (λ row. not (has (rows_at db c.args.rel.now) row)) c.loop-row.yielded (c.in-Some.row ∷ []));
 }

@@ -1,4 +1,4 @@
-use Rattle.copy_util.proofs.Told.{not_of_base}
+use Rattle.copy_util.proofs.Known.{not_of_base}
 use Rattle.copy_util.proofs.from_file.rows_for.Goals as goal
 
 pub returns-then-are_readable-clause-cause : goal.returns-then-are_readable-clause-cause

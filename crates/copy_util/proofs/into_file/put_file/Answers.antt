@@ -3,16 +3,16 @@ use Rattle.copy_util.specs.Reading.{up_to_bad}
 use Rattle.copy_util.proofs.Copied.{into_bad, into_made, into_refused}
 use Rattle.copy_util.proofs.into_file.put_file.Goals as goal
 
-pub returns-in-Ok-None-put_rows-clause-told : goal.returns-in-Ok-None-put_rows-clause-told
-returns-in-Ok-None-put_rows-clause-told g c = λ db e.
-    into_made db c.args.user.now c.args.rel.now c.args.columns.now c.put_rows.new.out.items (sym c.in-Ok-None.field-0-is ∙ c.in-Ok-None.ensures.told db (g.B.Base.own c.args.base.now db e))
-    (c.in-Ok-None-put_rows.ensures.told db (c.in-Ok-None.ensures.kept ∙ e) ∙ ap (up_to_bad c.put_rows.new.out.items) c.in-Ok-None-put_rows.field-0-is)
+pub returns-in-Ok-None-put_rows-clause-known : goal.returns-in-Ok-None-put_rows-clause-known
+returns-in-Ok-None-put_rows-clause-known g c = λ db e.
+    into_made db c.args.user.now c.args.rel.now c.args.columns.now c.put_rows.new.out.items (sym c.in-Ok-None.field-0-is ∙ c.in-Ok-None.ensures.known db (g.B.Base.own c.args.base.now db e))
+    (c.in-Ok-None-put_rows.ensures.known db (c.in-Ok-None.ensures.kept ∙ e) ∙ ap (up_to_bad c.put_rows.new.out.items) c.in-Ok-None-put_rows.field-0-is)
 
-pub returns-in-Ok-Some-put_rows-clause-told : goal.returns-in-Ok-Some-put_rows-clause-told
-returns-in-Ok-Some-put_rows-clause-told g c = λ db e.
-    into_bad db c.args.user.now c.args.rel.now c.args.columns.now c.in-Ok-Some-put_rows.row (sym c.in-Ok-None.field-0-is ∙ c.in-Ok-None.ensures.told db (g.B.Base.own c.args.base.now db e))
-    (c.in-Ok-Some-put_rows.ensures.told db (c.in-Ok-None.ensures.kept ∙ e) ∙ ap (up_to_bad c.put_rows.new.out.items) c.in-Ok-Some-put_rows.field-0-is)
+pub returns-in-Ok-Some-put_rows-clause-known : goal.returns-in-Ok-Some-put_rows-clause-known
+returns-in-Ok-Some-put_rows-clause-known g c = λ db e.
+    into_bad db c.args.user.now c.args.rel.now c.args.columns.now c.in-Ok-Some-put_rows.row (sym c.in-Ok-None.field-0-is ∙ c.in-Ok-None.ensures.known db (g.B.Base.own c.args.base.now db e))
+    (c.in-Ok-Some-put_rows.ensures.known db (c.in-Ok-None.ensures.kept ∙ e) ∙ ap (up_to_bad c.put_rows.new.out.items) c.in-Ok-Some-put_rows.field-0-is)
 
-pub returns-in-Ok-Some-clause-told : goal.returns-in-Ok-Some-clause-told
-returns-in-Ok-Some-clause-told g c = λ db e.
-    into_refused db c.args.user.now c.args.rel.now c.args.columns.now c.in-Ok-Some.cause (sym c.in-Ok-Some.field-0-is ∙ c.in-Ok-Some.ensures.told db (g.B.Base.own c.args.base.now db e))
+pub returns-in-Ok-Some-clause-known : goal.returns-in-Ok-Some-clause-known
+returns-in-Ok-Some-clause-known g c = λ db e.
+    into_refused db c.args.user.now c.args.rel.now c.args.columns.now c.in-Ok-Some.cause (sym c.in-Ok-Some.field-0-is ∙ c.in-Ok-Some.ensures.known db (g.B.Base.own c.args.base.now db e))

@@ -5,8 +5,8 @@ use Rattle.calculus.specs.QueryParts.{query_aggregates}
 use Rattle.calculus.specs.Used.{used_in_aggregate}
 use Rattle.quel_meaning.specs.FitQueries.{kept_or_viewed, source_fits}
 use Rattle.view_expand.specs.Asking.{who_of}
-use Rattle.view_text.specs.PutIn.{put_aggregate}
-use Rattle.view_text.specs.Texts.{put_from}
+use Rattle.view_text.specs.Expanded.{expanded_aggregate}
+use Rattle.view_text.specs.Expansions.{substituted_from}
 use Rattle.cut_rules.proofs.Gathering.{all_under, error_behind, map_under}
 use Rattle.cut_rules.proofs.aggregates.put_aggregates.Goals as goal
 
@@ -15,10 +15,10 @@ put_all-requires-clause-sources g c = λ db h.
     all_under (λ a. source_fits (kept_or_viewed db) db a.source) (λ a. a.now) c.deref.result.now (query_aggregates c.args.query.now) (ap (map (λ a. a.now)) c.deref.ensures.value ∙ c.in_ok-aggregates.ensures)
     ∙ c.requires.sources db h
 
-pub returns-in-Ok-clause-told : goal.returns-in-Ok-clause-told
-returns-in-Ok-clause-told g c = λ db h.
-    c.in-Ok.ensures.told db h
-    ∙ (λ i. c.new-made.ensures.items i ++ map_under (put_aggregate db (who_of (option_map (λ n. n.now) c.args.who)) (put_from 0 c.args.texts.now)) (λ a. a.now) c.deref.result.now (query_aggregates c.args.query.now) (ap (map (λ a. a.now)) c.deref.ensures.value ∙ c.in_ok-aggregates.ensures) i)
+pub returns-in-Ok-clause-known : goal.returns-in-Ok-clause-known
+returns-in-Ok-clause-known g c = λ db h.
+    c.in-Ok.ensures.known db h
+    ∙ (λ i. c.new-made.ensures.items i ++ map_under (expanded_aggregate db (who_of (option_map (λ n. n.now) c.args.who)) (substituted_from 0 c.args.expansions.now)) (λ a. a.now) c.deref.result.now (query_aggregates c.args.query.now) (ap (map (λ a. a.now)) c.deref.ensures.value ∙ c.in_ok-aggregates.ensures) i)
 
 pub returns-in-Ok-clause-permitted : goal.returns-in-Ok-clause-permitted
 returns-in-Ok-clause-permitted g c = λ db h.

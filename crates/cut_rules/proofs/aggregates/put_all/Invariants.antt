@@ -5,14 +5,14 @@ use Rattle.calculus.specs.Permission.{readable, source_permitted}
 use Rattle.calculus.specs.Used.{used_in_aggregate}
 use Rattle.view_expand.specs.Asking.{who_of}
 use Rattle.view_expand.specs.Found.{IsFound}
-use Rattle.view_text.specs.PutIn.{put_aggregate}
-use Rattle.view_text.specs.Texts.{put_from}
+use Rattle.view_text.specs.Expanded.{expanded_aggregate}
+use Rattle.view_text.specs.Expansions.{substituted_from}
 use Rattle.cut_rules.proofs.aggregates.put_all.Given as goal
 
 abbrev pub invariant-loop-aggregate : goal.invariant-loop-aggregate
 invariant-loop-aggregate g l = record {
-  told : (db : Db) → g.B.Base.database l.initial.base ≡ Some db
-      → l.made.items ≡ l.fn.made.items ++ map (λ g. put_aggregate db (who_of (option_map (λ n. n.now) l.who)) (put_from 0 l.texts) g.now) (take l.aggregate-index l.aggregates);
+  known : (db : Db) → g.B.Base.database l.initial.base ≡ Some db
+      → l.made.items ≡ l.fn.made.items ++ map (λ g. expanded_aggregate db (who_of (option_map (λ n. n.now) l.who)) (substituted_from 0 l.expansions) g.now) (take l.aggregate-index l.aggregates);
   permitted : (db : Db) → g.B.Base.database l.initial.base ≡ Some db
       → list_all (λ g. source_permitted (readable db (who_of (option_map (λ n. n.now) l.who))) (used_in_aggregate g.now) g.now.source) (take l.aggregate-index l.aggregates) ≡ true;
   found : (db : Db) → g.B.Base.database l.initial.base ≡ Some db → IsFound db (who_of (option_map (λ n. n.now) l.who)) l.found;

@@ -5,7 +5,7 @@ use Rattle.cut_rules.proofs.attributes.aggregate_uses.Goals as goal
 
 pub returns : goal.returns
 returns c =
-    c.in_ok-put_in_qual.ensures
+    c.in_ok-substituted_qual.ensures
     ∙ ap (λ attrs. attrs ++ named_in_qual 0 c.args.g.now.qual)
     (c.in_ok-put_all_named.ensures ∙ (λ i. (c.in_ok-put_named.ensures ∙ ap (λ attrs. attrs ++ named 0 c.args.g.now.arg) c.new-attrs.ensures.items) i ++ flat_map (named 0) (c.items.ensures i)))
     ∙ named_by_aggregate c.args.g.now

@@ -4,7 +4,7 @@ use Rattle.calculus.specs.declared.request.Asked.{Asked}
 use Rattle.calculus.specs.Permission.{query_permitted}
 use Rattle.quel_meaning.specs.FitQueries.{kept_or_viewed, asked_fits}
 use Rattle.view_expand.specs.Asking.{who_of}
-use Rattle.view_text.specs.PutIn.{put_in_asked}
+use Rattle.view_text.specs.Expanded.{expanded_asked}
 use Rattle.cut_rules.specs.Causes.{HasCause}
 use Rattle.cut_rules.specs.Refused.{IsRefusedIn}
 use Rattle.cut_rules.proofs.Causing.{failed_behind}
@@ -29,9 +29,9 @@ returns-in_err-put_asked-clause-cause g c =
 pub asked-preserved : goal.asked-preserved
 asked-preserved g c = record {
   within = λ a h. c.asked.invariant.within a (contains_later c.in-Some.first.now a c.asked.rest.now c.in-Some.others.now c.in-Some.ensures.cases.0 h);
-  told = λ db h.
-      next_mapped (put_in_asked db (who_of (option_map (λ n. n.now) c.args.who))) c.in-Some.first.now c.asked.rest.now c.in-Some.others.now c.asked.made.items _ c.put_asked.new.made.items c.in-Some.ensures.cases.0
-      (c.in_ok-put_asked.ensures.told db (c.asked.invariant.kept ∙ h)) (c.asked.invariant.told db h);
+  known = λ db h.
+      next_mapped (expanded_asked db (who_of (option_map (λ n. n.now) c.args.who))) c.in-Some.first.now c.asked.rest.now c.in-Some.others.now c.asked.made.items _ c.put_asked.new.made.items c.in-Some.ensures.cases.0
+      (c.in_ok-put_asked.ensures.known db (c.asked.invariant.kept ∙ h)) (c.asked.invariant.known db h);
   permitted = λ db h.
       passed_on (λ a. query_permitted db (who_of (option_map (λ n. n.now) c.args.who)) a.query) c.in-Some.first.now c.asked.rest.now c.in-Some.others.now _ c.in-Some.ensures.cases.0 (c.in_ok-put_asked.ensures.permitted db (c.asked.invariant.kept ∙ h)) (c.asked.invariant.permitted db h);
   fit = λ db h. others_of (asked_fits (kept_or_viewed db) db) c.in-Some.first.now c.asked.rest.now c.in-Some.others.now c.in-Some.ensures.cases.0 (c.asked.invariant.fit db h);

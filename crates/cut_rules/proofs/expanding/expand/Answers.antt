@@ -1,5 +1,5 @@
 use Rattle.std.proofs.Common.{sym, ◌∙◌}
-use Rattle.am_traits.proofs.Known.{known_before}
+use Rattle.base_trait.proofs.Known.{known_before}
 use Rattle.cut_rules.proofs.Answered.{expand_behind}
 use Rattle.cut_rules.proofs.expanding.expand.Goals as goal
 

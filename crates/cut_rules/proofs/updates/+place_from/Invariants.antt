@@ -2,4 +2,4 @@ use Rattle.std.proofs.Common.{length}
 use Rattle.cut_rules.proofs.updates.+place_from.Given as goal
 
 abbrev pub decreases-place_from : goal.decreases-place_from
-decreases-place_from l = length l.texts.now
+decreases-place_from l = length l.expansions.now

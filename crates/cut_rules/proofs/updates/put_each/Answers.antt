@@ -1,20 +1,20 @@
 use Rattle.std.proofs.Common.{◌≡◌, sym, ◌∙◌, subst, Err, option_map, rules}
 use Rattle.view_expand.specs.Asking.{who_of}
 use Rattle.cut_rules.specs.Causes.{HasCause}
-use Rattle.cut_rules.specs.Placed.{IsRefusedAt, is_small_in, may_be_used, text_in}
+use Rattle.cut_rules.specs.Placed.{IsRefusedAt, is_small_in, may_be_used, expansion_in}
 use Rattle.cut_rules.proofs.Causing.{failed_behind}
-use Rattle.cut_rules.proofs.Listing.{next_told, here_all, later_all, next_all, next_keys, here_key, next_length}
+use Rattle.cut_rules.proofs.Listing.{next_known, here_all, later_all, next_all, next_keys, here_key, next_length}
 use Rattle.cut_rules.proofs.Refusing.{refused_at}
 use Rattle.cut_rules.proofs.updates.put_each.Goals as goal
 
-pub text_in-requires-clause-small : goal.text_in-requires-clause-small
-text_in-requires-clause-small g c = λ db h.
+pub expansion_in-requires-clause-small : goal.expansion_in-requires-clause-small
+expansion_in-requires-clause-small g c = λ db h.
     here_all (is_small_in db c.args.u.now) c.keys.place c.in-Some.key.now c.keys.rest.now c.in-Some.others.now c.in-Some.ensures.cases.0 (c.keys.invariant.small db (sym c.keys.invariant.kept ∙ h))
 
 pub returns-in_err-more-clause-cause : goal.returns-in_err-more-clause-cause
 returns-in_err-more-clause-cause g c =
     let is : c.from_residual.result ≡ Err c.in_err-more.field-0.0 = search rules in
-    subst (λ r. HasCause (λ db var. IsRefusedAt (may_be_used db (who_of (option_map (λ n. n.now) c.args.who)) c.args.u.now) c.args.keys.now var) (g.B.Base.database c.args.base.now) (g.B.Base.faults c.args.base.now) (g.B.Base.faults c.text_in.new.base) r) (sym is)
+    subst (λ r. HasCause (λ db var. IsRefusedAt (may_be_used db (who_of (option_map (λ n. n.now) c.args.who)) c.args.u.now) c.args.keys.now var) (g.B.Base.database c.args.base.now) (g.B.Base.faults c.args.base.now) (g.B.Base.faults c.expansion_in.new.base) r) (sym is)
     (failed_behind _ _ _ _ _ _ _ _ c.in_err-more.ensures.cause c.keys.invariant.kept c.keys.invariant.faults
     (λ db h var r. refused_at (may_be_used db (who_of (option_map (λ n. n.now) c.args.who)) c.args.u.now) c.args.keys.now c.keys.place c.in-Some.key.now var
     (here_key c.keys.place c.in-Some.key.now c.keys.rest.now c.in-Some.others.now c.args.keys.now c.in-Some.ensures.cases.0 c.keys.invariant.same_keys) r.0 r.1))
@@ -23,10 +23,10 @@ pub keys-preserved : goal.keys-preserved
 keys-preserved g c = record {
   place = next_length c.keys.place _ c.in-Some.key.now c.keys.rest.now c.in-Some.others.now c.in-Some.ensures.cases.0 c.keys.invariant.place;
   same_keys = next_keys c.keys.place c.in-Some.key.now c.keys.rest.now c.in-Some.others.now c.args.keys.now c.in-Some.ensures.cases.0 c.keys.invariant.same_keys;
-  told = λ db h.
+  known = λ db h.
       let who = (who_of (option_map (λ n. n.now) c.args.who)) in
-      next_told (text_in db who c.args.u.now) c.keys.place c.in-Some.key.now c.keys.rest.now c.in-Some.others.now c.keys.texts.items _ c.put_behind.new.texts.items c.in_ok-more.more c.in-Some.ensures.cases.0
-      (c.in_ok-more.ensures.told db (c.keys.invariant.kept ∙ h)) c.in_ok-put_behind.ensures.texts (c.keys.invariant.told db h);
+      next_known (expansion_in db who c.args.u.now) c.keys.place c.in-Some.key.now c.keys.rest.now c.in-Some.others.now c.keys.expansions.items _ c.put_behind.new.expansions.items c.in_ok-more.more c.in-Some.ensures.cases.0
+      (c.in_ok-more.ensures.known db (c.keys.invariant.kept ∙ h)) c.in_ok-put_behind.ensures.expansions (c.keys.invariant.known db h);
   permitted = λ db h.
       let who = (who_of (option_map (λ n. n.now) c.args.who)) in
       next_all (may_be_used db who c.args.u.now) c.keys.place c.in-Some.key.now c.keys.rest.now c.in-Some.others.now _ c.in-Some.ensures.cases.0 (c.in_ok-more.ensures.permitted db (c.keys.invariant.kept ∙ h)) (c.keys.invariant.permitted db h);

@@ -5,7 +5,7 @@ use Rattle.calculus.specs.Database.{Db}
 use Rattle.view_expand.specs.Asking.{who_of}
 use Rattle.view_expand.specs.Found.{IsFound}
 use Rattle.view_text.specs.Scoped.{is_scoped}
-use Rattle.cut_rules.specs.Placed.{text_in, may_be_used, is_small_in}
+use Rattle.cut_rules.specs.Placed.{expansion_in, may_be_used, is_small_in}
 use Rattle.cut_rules.proofs.updates.put_each.Given as goal
 
 abbrev pub decreases-keys : goal.decreases-keys
@@ -15,14 +15,14 @@ abbrev pub invariant-keys : goal.invariant-keys
 invariant-keys g l = record {
   place : l.place + length l.rest ≡ length l.keys;
   same_keys : (v : ℕ) → slice_get l.rest v ≡ slice_get l.keys (l.place + v);
-  told : (db : Db) → g.B.Base.database l.initial.base ≡ Some db
-      → l.texts.items ++ map (text_in db (who_of (option_map (λ n. n.now) l.who)) l.u) (enumerate_from l.place l.rest)
-      ≡ l.fn.texts.items ++ map (text_in db (who_of (option_map (λ n. n.now) l.who)) l.u) (enumerate_from 0 l.keys);
+  known : (db : Db) → g.B.Base.database l.initial.base ≡ Some db
+      → l.expansions.items ++ map (expansion_in db (who_of (option_map (λ n. n.now) l.who)) l.u) (enumerate_from l.place l.rest)
+      ≡ l.fn.expansions.items ++ map (expansion_in db (who_of (option_map (λ n. n.now) l.who)) l.u) (enumerate_from 0 l.keys);
   permitted : (db : Db) → g.B.Base.database l.initial.base ≡ Some db
       → list_all (may_be_used db (who_of (option_map (λ n. n.now) l.who)) l.u) (enumerate_from l.place l.rest)
       ≡ list_all (may_be_used db (who_of (option_map (λ n. n.now) l.who)) l.u) (enumerate_from 0 l.keys);
   small : (db : Db) → g.B.Base.database l.initial.base ≡ Some db → list_all (is_small_in db l.u) (enumerate_from l.place l.rest) ≡ true;
-  scoped : list_all is_scoped l.fn.texts.items ≡ true → list_all is_scoped l.texts.items ≡ true;
+  scoped : list_all is_scoped l.fn.expansions.items ≡ true → list_all is_scoped l.expansions.items ≡ true;
   found : (db : Db) → g.B.Base.database l.initial.base ≡ Some db → IsFound db (who_of (option_map (λ n. n.now) l.who)) l.found;
   kept : g.B.Base.database l.base ≡ g.B.Base.database l.initial.base;
   stays : (s : Db) → g.B.Base.schema l.initial.base ≡ Some s → g.B.Base.schema l.base ≡ Some s;

@@ -5,7 +5,7 @@ use Rattle.schema_laws.proofs.Alike.{found_alike}
 use Rattle.db_disk.proofs.Asking.{asked}
 use Rattle.db_disk.proofs.asked.find.Goals as goal
 
-pub returns-clause-told : goal.returns-clause-told
-returns-clause-told c = λ s schema.
-    asked (database_of c.find.new.self) (database_of c.in-Some.known.plain) s c.find.ensures.kept schema (λ info. info) (λ db. found db c.args.user.now c.args.name.now) (λ db. found_alike db c.args.user.now c.args.name.now) c.find.result
-    (c.find.ensures.told _ refl)
+pub returns-clause-known : goal.returns-clause-known
+returns-clause-known c = λ s schema.
+    asked (database_of c.find.new.self) (database_of c.in-Some.cached.plain) s c.find.ensures.kept schema (λ info. info) (λ db. found db c.args.user.now c.args.name.now) (λ db. found_alike db c.args.user.now c.args.name.now) c.find.result
+    (c.find.ensures.known _ refl)

@@ -77,12 +77,12 @@ pub returns-in-NoHeader-clause-no_head : goal.returns-in-NoHeader-clause-no_head
 returns-in-NoHeader-clause-no_head g c = λ m page is e. without_header m (subst (IsHead m) c.in-NoHeader.is (c.in_ok-dba.ensures.head m is)).1
 
 pub returns-in-Of-clause-at_catalog : goal.returns-in-Of-clause-at_catalog
-returns-in-Of-clause-at_catalog g c = λ m file page told head e. c.load_for.ensures.at_catalog m file page (c.read_head.ensures.same ∙ told) e
+returns-in-Of-clause-at_catalog g c = λ m file page known head e. c.load_for.ensures.at_catalog m file page (c.read_head.ensures.same ∙ known) e
 
 pub returns-in-NoHeader-clause-at_catalog : goal.returns-in-NoHeader-clause-at_catalog
-returns-in-NoHeader-clause-at_catalog g c = λ m file page told head e.
-    absurd (true≢false (sym head ∙ without_header m (subst (IsHead m) c.in-NoHeader.is (c.in_ok-dba.ensures.head m told)).1))
+returns-in-NoHeader-clause-at_catalog g c = λ m file page known head e.
+    absurd (true≢false (sym head ∙ without_header m (subst (IsHead m) c.in-NoHeader.is (c.in_ok-dba.ensures.head m known)).1))
 
 pub returns-in-Unborn-clause-at_catalog : goal.returns-in-Unborn-clause-at_catalog
-returns-in-Unborn-clause-at_catalog g c = λ m file page told head e.
-    absurd (true≢false (sym head ∙ without_birth m (subst (IsHead m) c.in-Unborn.is (c.in_ok-dba.ensures.head m told))))
+returns-in-Unborn-clause-at_catalog g c = λ m file page known head e.
+    absurd (true≢false (sym head ∙ without_birth m (subst (IsHead m) c.in-Unborn.is (c.in_ok-dba.ensures.head m known))))

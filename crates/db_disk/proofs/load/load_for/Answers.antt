@@ -35,8 +35,8 @@ returns-in-Ok-clause-cause g c = record { later = c.in-Ok.ensures.cause.later; c
 
 pub returns-in-Err-clause-cause : goal.returns-in-Err-clause-cause
 returns-in-Err-clause-cause g c =
-    cause_earlier {T = Catalog} {U = Catalog} _ _ (NoDatabaseAt c.args.dba) (NoDatabase c.args.dba) _ _ _ c.in-Err.fault refl (λ a at m told. (at m told).0) c.in-Err.ensures.cause
+    cause_earlier {T = Catalog} {U = Catalog} _ _ (NoDatabaseAt c.args.dba) (NoDatabase c.args.dba) _ _ _ c.in-Err.fault refl (λ a at m known. (at m known).0) c.in-Err.ensures.cause
 
 pub returns-in-Err-clause-at_catalog : goal.returns-in-Err-clause-at_catalog
-returns-in-Err-clause-at_catalog g c = λ m file page told e.
-    (at_fault _ (NoDatabaseAt c.args.dba) _ _ c.in-Err.fault c.in-Err.ensures.cause.caused m file page told (same_err {T = Catalog} _ _ e)).1
+returns-in-Err-clause-at_catalog g c = λ m file page known e.
+    (at_fault _ (NoDatabaseAt c.args.dba) _ _ c.in-Err.fault c.in-Err.ensures.cause.caused m file page known (same_err {T = Catalog} _ _ e)).1

@@ -1,5 +1,5 @@
 use Rattle.std.proofs.Common.{◌≡◌, ◌∙◌, refl, Err, arith, rules}
-use Rattle.net_core.specs.Told.{outside}
+use Rattle.net_core.specs.Known.{outside}
 use Rattle.net_core.specs.declared.steps.Moved.TheVariants.{Blocked, Stepped}
 use Rattle.net_core.proofs.Crashing.{durable_more, durable_same}
 use Rattle.net_core.proofs.Faulty.{heard_more, script_more}

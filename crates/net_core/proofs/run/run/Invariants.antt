@@ -1,7 +1,7 @@
 use Rattle.std.proofs.Common.{◌≡◌, ◌-◌, ◌^◌, ◌≤◌, length, Ok}
 use Rattle.net_core.specs.declared.steps.Moved.TheVariants.{Stepped}
 use Rattle.net_core.specs.Crashes.{StaysDurable}
-use Rattle.net_core.specs.Told.{outside}
+use Rattle.net_core.specs.Known.{outside}
 use Rattle.quel_network.specs.Sorts.{User}
 use Rattle.net_core.specs.Sides.{sides}
 use Rattle.net_core.specs.LoopSteps.{RoomKept}

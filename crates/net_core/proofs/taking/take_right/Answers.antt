@@ -9,7 +9,7 @@ returns-in_err-frame-clause-taken g c = λ taken bytes h.
 
 pub returns-in-Some-clause-taken : goal.returns-in-Some-clause-taken
 returns-in-Some-clause-taken g c = λ taken bytes h.
-    told_frame (g.T.Stage.serves c.args.stage.now) _ _ taken bytes _ _ c.next_right.new.self c.in_ok-frame.frame c.in-Some.status (c.in_ok-frame.ensures.asked taken bytes h) c.in-Some.ensures.told c.in-Some.ensures.status
+    told_frame (g.T.Stage.serves c.args.stage.now) _ _ taken bytes _ _ c.next_right.new.self c.in_ok-frame.frame c.in-Some.status (c.in_ok-frame.ensures.asked taken bytes h) c.in-Some.ensures.known c.in-Some.ensures.status
 
 pub returns-in-None-clause-taken : goal.returns-in-None-clause-taken
 returns-in-None-clause-taken g c = λ taken bytes h.

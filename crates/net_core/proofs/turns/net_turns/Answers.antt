@@ -1,6 +1,6 @@
 use Rattle.std.proofs.Common.{◌≡◌, Err, refl, ◌∙◌, arith, rules}
 use Rattle.net_core.proofs.Faulty.{counts_from, heard_more, script_more, script_of}
-use Rattle.net_core.specs.Told.{outside}
+use Rattle.net_core.specs.Known.{outside}
 use Rattle.net_core.proofs.Crashing.{no_turn, one_more_turn, turns_leave}
 use Rattle.net_core.proofs.Turning.{are_numbered, none_done, one_more_done, turns_disorderly, turns_failed, turns_finish, turns_keep, turns_lead, turns_stopped}
 use Rattle.net_core.proofs.turns.net_turns.Goals as goal

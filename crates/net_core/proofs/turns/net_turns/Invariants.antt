@@ -1,5 +1,5 @@
 use Rattle.std.proofs.Common.{◌≡◌, take}
-use Rattle.net_core.specs.Told.{outside}
+use Rattle.net_core.specs.Known.{outside}
 use Rattle.net_core.specs.Whole.{AllServe, AreNumbered, heard_by, shape}
 use Rattle.net_core.proofs.Crashing.{TurnsCrash}
 use Rattle.net_core.proofs.Turning.{TurnsDone}

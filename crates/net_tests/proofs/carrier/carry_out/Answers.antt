@@ -10,7 +10,7 @@ returns-in-Ok g c =
     let a = g.B.Base.asks c.apply.new.self c.hand_over.new.self (c.hand_over.ensures.asked c.apply.new.self (g.B.Base.starts c.apply.new.self)) in
     record {
       done = carried_ok c.of.result _ (g.B.Base.database c.apply.new.self) _ _ _ (g.B.Base.faults c.apply.new.self) _ _ (g.B.Base.clock c.apply.new.self) _ _ (g.B.Base.left_since c.apply.new.self) _ _ (c.of.ensures ∙ c.new.ensures.items)
-          c.in-Ok.ensures.told c.in-Ok.ensures.crash c.in-Ok.ensures.durable c.in-Ok.ensures.cause.caused c.hand_over.ensures.kept c.hand_over.ensures.faults c.hand_over.ensures.forgotten a.nothing_else (g.B.Base.counts_now c.hand_over.new.self);
+          c.in-Ok.ensures.known c.in-Ok.ensures.crash c.in-Ok.ensures.durable c.in-Ok.ensures.cause.caused c.hand_over.ensures.kept c.hand_over.ensures.faults c.hand_over.ensures.forgotten a.nothing_else (g.B.Base.counts_now c.hand_over.new.self);
     }
 
 pub returns : goal.returns

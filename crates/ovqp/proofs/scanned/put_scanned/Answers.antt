@@ -2,15 +2,15 @@ use Rattle.std.proofs.Common.{sym, ap, ◌∙◌, [], ◌∷◌, ◌++◌, lengt
 use Rattle.std.proofs.lemmas.List.{length-append}
 use Rattle.calculus.specs.declared.probe.Probe.{Probe}
 use Rattle.calculus.specs.Stored.{rows_at}
-use Rattle.am_traits.specs.Scans.{Gave, first_place}
+use Rattle.base_trait.specs.Scans.{Gave, first_place}
 use Rattle.ovqp.proofs.ByScan.{one_more, all_given, too_many}
 use Rattle.ovqp.proofs.scanned.put_scanned.Goals as goal
 
-pub returns-in-None-clause-told : goal.returns-in-None-clause-told
-returns-in-None-clause-told g c = λ db e.
+pub returns-in-None-clause-known : goal.returns-in-None-clause-known
+returns-in-None-clause-known g c = λ db e.
     let probe : Probe = c.args.probe.now in
     let met = subst (λ o. Gave probe (g.B.Base.left c.loop-call.base c.args.key.now c.loop-call.at) (g.B.Base.left c.loop-call.base c.args.key.now c.scan.new.at) o)
-    c.in-None.is (c.in_ok-row.ensures.told db (c.loop-call.invariant.kept ∙ e)) in
+    c.in-None.is (c.in_ok-row.ensures.known db (c.loop-call.invariant.kept ∙ e)) in
     all_given probe c.loop-call.rows.items (g.B.Base.left c.loop-call.base c.args.key.now c.loop-call.at) (g.B.Base.left c.args.base.now c.args.key.now first_place) (rows_at db c.args.key.now)
     c.requires.any met
     (ap (λ left. c.loop-call.rows.items ++ left c.args.key.now c.loop-call.at) c.loop-call.invariant.same ∙ c.loop-call.invariant.so_far db e)
@@ -27,7 +27,7 @@ loop-call-preserved g c = record {
   so_far = λ db e.
       let probe : Probe = c.args.probe.now in
       let met = subst (λ o. Gave probe (g.B.Base.left c.loop-call.base c.args.key.now c.loop-call.at) (g.B.Base.left c.loop-call.base c.args.key.now c.scan.new.at) o)
-      c.in-Some.is (c.in_ok-row.ensures.told db (c.loop-call.invariant.kept ∙ e)) in
+      c.in-Some.is (c.in_ok-row.ensures.known db (c.loop-call.invariant.kept ∙ e)) in
       (λ i. c.in_ok-push-in-Some.ensures.behind i ++ sym c.loop-call.invariant.same i c.args.key.now c.scan.new.at)
       ∙ one_more probe c.loop-call.rows.items (g.B.Base.left c.loop-call.base c.args.key.now c.loop-call.at) (g.B.Base.left c.loop-call.base c.args.key.now c.scan.new.at)
       (g.B.Base.left c.args.base.now c.args.key.now first_place) c.in-Some.row c.requires.any met

@@ -1,6 +1,6 @@
 use Rattle.std.proofs.Common.{◌≡◌, ◌++◌, Some, length}
 use Rattle.calculus.specs.Database.{Db}
-use Rattle.am_traits.specs.Scans.{first_place}
+use Rattle.base_trait.specs.Scans.{first_place}
 use Rattle.ovqp.proofs.scanned.put_scanned.Given as goal
 
 abbrev pub invariant-loop-call : goal.invariant-loop-call

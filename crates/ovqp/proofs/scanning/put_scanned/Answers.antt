@@ -1,5 +1,5 @@
 use Rattle.std.proofs.Common.{◌≡◌, refl, subst, ◌∙◌, arith, rules, Err, None, Some}
-use Rattle.am_traits.specs.Scans.{Gave, first_place}
+use Rattle.base_trait.specs.Scans.{Gave, first_place}
 use Rattle.calculus.specs.declared.probe.Probe.{Probe}
 use Rattle.ovqp.specs.Given.{given_fault}
 use Rattle.ovqp.proofs.Assigning.{read_none, read_more, read_all, too_many, row_lacks, scan_fails}
@@ -15,11 +15,11 @@ loop-call-init g c = record {
   so_far = λ db e q is. read_none q (g.B.Base.left c.args.base.now c.args.rel.now first_place) c.args.given.now.items c.requires.empty;
 }
 
-pub returns-in-None-clause-told : goal.returns-in-None-clause-told
-returns-in-None-clause-told g c = λ db e q is.
+pub returns-in-None-clause-known : goal.returns-in-None-clause-known
+returns-in-None-clause-known g c = λ db e q is.
     let probe : Probe = c.args.probe.now in
     let met = subst (λ o. Gave probe (g.B.Base.left c.loop-call.base c.args.rel.now c.loop-call.at) (g.B.Base.left c.loop-call.base c.args.rel.now c.scan.new.at) o)
-    c.in-None.is (c.in_ok-row.ensures.told db (c.loop-call.invariant.kept ∙ e)) in
+    c.in-None.is (c.in_ok-row.ensures.known db (c.loop-call.invariant.kept ∙ e)) in
     let here = subst (λ left. Gave probe (left c.args.rel.now c.loop-call.at) (left c.args.rel.now c.scan.new.at) None) c.loop-call.invariant.same met in
     read_all probe q (g.B.Base.left c.args.base.now c.args.rel.now first_place) (g.B.Base.left c.args.base.now c.args.rel.now c.loop-call.at) c.loop-call.call c.loop-call.given.items
     c.requires.any here (c.loop-call.invariant.so_far db e q is)
@@ -34,7 +34,7 @@ loop-call-preserved g c = record {
   so_far = λ db e q is.
       let probe : Probe = c.args.probe.now in
       let met = subst (λ o. Gave probe (g.B.Base.left c.loop-call.base c.args.rel.now c.loop-call.at) (g.B.Base.left c.loop-call.base c.args.rel.now c.scan.new.at) o)
-      c.in-Some.is (c.in_ok-row.ensures.told db (c.loop-call.invariant.kept ∙ e)) in
+      c.in-Some.is (c.in_ok-row.ensures.known db (c.loop-call.invariant.kept ∙ e)) in
       let here = subst (λ left. Gave probe (left c.args.rel.now c.loop-call.at) (left c.args.rel.now c.scan.new.at) (Some c.in-Some.row)) c.loop-call.invariant.same met in
       read_more probe q (g.B.Base.left c.args.base.now c.args.rel.now first_place) (g.B.Base.left c.args.base.now c.args.rel.now c.loop-call.at)
       (g.B.Base.left c.args.base.now c.args.rel.now c.scan.new.at) c.loop-call.call c.in-Some.row c.loop-call.given.items c.give_of.new.given.items
@@ -50,7 +50,7 @@ returns-in_err-give_of-in-Some-clause-cause g c = λ q is.
     c.from_residual-in_err-give_of-in-Some.result given (c.in_ok-row.ensures.cause.caused ∙ c.loop-call.invariant.faults)
     (λ db e.
     let met = subst (λ o. Gave probe (g.B.Base.left c.loop-call.base c.args.rel.now c.loop-call.at) (g.B.Base.left c.loop-call.base c.args.rel.now c.scan.new.at) o)
-    c.in-Some.is (c.in_ok-row.ensures.told db (c.loop-call.invariant.kept ∙ e)) in
+    c.in-Some.is (c.in_ok-row.ensures.known db (c.loop-call.invariant.kept ∙ e)) in
     let here = subst (λ left. Gave probe (left c.args.rel.now c.loop-call.at) (left c.args.rel.now c.scan.new.at) (Some c.in-Some.row)) c.loop-call.invariant.same met in
     row_lacks probe db c.args.rel.now q (g.B.Base.left c.args.base.now c.args.rel.now first_place) (g.B.Base.left c.args.base.now c.args.rel.now c.loop-call.at)
     (g.B.Base.left c.args.base.now c.args.rel.now c.scan.new.at) c.loop-call.call c.loop-call.given.items c.in-Some.row fault

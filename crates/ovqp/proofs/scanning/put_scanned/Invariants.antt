@@ -1,7 +1,7 @@
 use Rattle.std.proofs.Common.{◌≡◌, Some}
 use Rattle.calculus.specs.declared.query.Query.{Query}
 use Rattle.calculus.specs.Database.{Db}
-use Rattle.am_traits.specs.Scans.{first_place}
+use Rattle.base_trait.specs.Scans.{first_place}
 use Rattle.ovqp.specs.Parts.{IsQueryOf, HasRead}
 use Rattle.ovqp.proofs.scanning.put_scanned.Given as goal
 

@@ -6,9 +6,9 @@ use Rattle.page_chain.proofs.Handed.{store_carried}
 use Rattle.page_chain.proofs.chains.chain_page.Goals as goal
 
 pub returns-in-Some-clause-there : goal.returns-in-Some-clause-there
-returns-in-Some-clause-there g c m told =
+returns-in-Some-clause-there g c m known =
     let its = there_follows c.args.bound c.args.page c.in-Some.next c.in_ok-is_there.is_there c.get.new.out (sym c.next_there.ensures ∙ c.in-Some.is) in
-    c.in_ok-is_there.ensures.page m told ∙ ap (λ b. if b then Some c.get.new.out else None) its.0
+    c.in_ok-is_there.ensures.page m known ∙ ap (λ b. if b then Some c.get.new.out else None) its.0
 
 pub returns-in-Some-clause-follows : goal.returns-in-Some-clause-follows
 returns-in-Some-clause-follows g c =
@@ -27,7 +27,7 @@ returns-in-Some-clause-may g c = (there_follows c.args.bound c.args.page c.in-So
 pub returns-in-None-clause-cause : goal.returns-in-None-clause-cause
 returns-in-None-clause-cause g c = record {
   later = c.in_ok-is_there.ensures.cause.later;
-  caused = (λ m told. record { of_file = refl; of_page = refl; off = ap (next_of c.args.bound c.args.page) (c.in_ok-is_there.ensures.page m told) ∙ sym c.next_there.ensures ∙ c.in-None.is }, c.in_ok-is_there.ensures.cause.caused);
+  caused = (λ m known. record { of_file = refl; of_page = refl; off = ap (next_of c.args.bound c.args.page) (c.in_ok-is_there.ensures.page m known) ∙ sym c.next_there.ensures ∙ c.in-None.is }, c.in_ok-is_there.ensures.cause.caused);
 }
 
 pub returns-in-Some-clause-came : goal.returns-in-Some-clause-came

@@ -9,12 +9,12 @@ pub returns-in_err-put-clause-came : goal.returns-in_err-put-clause-came
 returns-in_err-put-clause-came g c = c.put.ensures.came
 
 pub returns-clause-linked : goal.returns-clause-linked
-returns-clause-linked g c = λ m told. record {
+returns-clause-linked g c = λ m known. record {
   linked = c.set_next.new.p;
   is_page = c.set_next.ensures.page;
   same_slots = c.set_next.ensures.slots;
   goes_on = c.set_next.ensures.next;
-  told_still = c.in_ok-put.ensures.page m told;
+  still_known = c.in_ok-put.ensures.page m known;
 }
 
 pub returns-clause-fresh : goal.returns-clause-fresh

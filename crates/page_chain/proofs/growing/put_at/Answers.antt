@@ -1,21 +1,21 @@
 use Rattle.std.proofs.Common.{◌∙◌, sym, length, arith, subst}
 use Rattle.page_chain.proofs.Grown.{one_here}
 use Rattle.std.specs.Prelude.{IfOk}
-use Rattle.access_traits.specs.Pages.{with_page}
+use Rattle.am_traits.specs.Pages.{with_page}
 use Rattle.page_chain.specs.Filled.{OneLaid}
 use Rattle.page_chain.specs.Pages.{page_at}
 use Rattle.page_chain.proofs.Handed.{store_on}
 use Rattle.page_chain.proofs.growing.put_at.Goals as goal
 
 pub returns-in_ok-put-in-Some-clause-laid : goal.returns-in_ok-put-in-Some-clause-laid
-returns-in_ok-put-in-Some-clause-laid g c m told =
+returns-in_ok-put-in-Some-clause-laid g c m known =
     one_here c.args.file c.args.last c.args.page.now c.put_row.new.p (length c.args.row.now) c.in-Some.line c.args.row.now m (g.S.PageStore.pages c.put.new.self)
-    c.in-Some.ensures.page (c.in-Some.ensures.next ∙ c.requires.ends) (sym c.in-Some.ensures.line) c.in-Some.ensures.slots (c.in_ok-put-in-Some.ensures.page m told)
+    c.in-Some.ensures.page (c.in-Some.ensures.next ∙ c.requires.ends) (sym c.in-Some.ensures.line) c.in-Some.ensures.slots (c.in_ok-put-in-Some.ensures.page m known)
 
 pub returns-in-None-clause-laid : goal.returns-in-None-clause-laid
-returns-in-None-clause-laid g c = λ m told.
+returns-in-None-clause-laid g c = λ m known.
     subst (λ p. IfOk c.put_behind.result (λ place. OneLaid c.args.file c.args.last place c.args.row.now (with_page (page_at c.args.file c.args.last) p m) (g.S.PageStore.pages c.put_behind.new.store)))
-    c.in-None.ensures.none (c.put_behind.ensures.laid m told)
+    c.in-None.ensures.none (c.put_behind.ensures.laid m known)
 
 pub returns-in-None-clause-behind : goal.returns-in-None-clause-behind
 returns-in-None-clause-behind g c = c.put_behind.ensures.behind

@@ -4,9 +4,9 @@ use Rattle.page_chain.proofs.Handed.{store_on}
 use Rattle.page_chain.proofs.growing.put_behind.Goals as goal
 
 pub returns-clause-laid : goal.returns-clause-laid
-returns-clause-laid g c m told =
+returns-clause-laid g c m known =
     one_behind c.args.file c.args.last c.args.page.now c.turn_page.new.page c.put_row.new.p c.put_row.result c.args.row.now m (g.S.PageStore.pages c.turn_page.new.store) (g.S.PageStore.pages c.put.new.self)
-    c.requires.page c.requires.ends (c.in_ok-turn_page.ensures.linked m told) c.in_ok-turn_page.ensures.fresh c.requires.short.most c.put_row.ensures.line c.put_row.ensures.slots c.put_row.ensures.page
+    c.requires.page c.requires.ends (c.in_ok-turn_page.ensures.linked m known) c.in_ok-turn_page.ensures.fresh c.requires.short.most c.put_row.ensures.line c.put_row.ensures.slots c.put_row.ensures.page
     (c.put_row.ensures.next ∙ c.in_ok-turn_page.ensures.next) c.in_ok-put.ensures.page
 
 pub returns-clause-came : goal.returns-clause-came

@@ -1,27 +1,27 @@
 use Rattle.std.proofs.Common.{◌∙◌, ◌∷◌, [], arith, ◌+◌}
-use Rattle.page_chain.proofs.Grown.{has_grown, one_more, one_told, one_there, others_kept}
+use Rattle.page_chain.proofs.Grown.{has_grown, one_more, one_known, one_there, others_kept}
 use Rattle.page_chain.specs.Chains.{OffPage}
 use Rattle.page_chain.proofs.Carried.{cause_carried}
 use Rattle.page_chain.proofs.Handed.{store_carried}
 use Rattle.page_chain.proofs.growing.put_one.Goals as goal
 
 pub returns-clause-grown : goal.returns-clause-grown
-returns-clause-grown g c m told bound earlier lt is =
+returns-clause-grown g c m known bound earlier lt is =
     has_grown c.args.file bound earlier c.args.last c.in_ok-place.place.page (c.args.row.now ∷ []) m (g.S.PageStore.pages c.put_at.new.store)
-    (one_told c.args.file c.args.last c.in_ok-place.place c.args.row.now m (g.S.PageStore.pages c.put_at.new.store)
-    (one_there c.args.file c.args.last c.in_ok-place.place c.args.row.now c.chain_page.new.out m (g.S.PageStore.pages c.put_at.new.store) (c.in_ok-chain_page.ensures.there m told)
-    (c.in_ok-place.ensures.laid m (c.in_ok-chain_page.ensures.same ∙ told)))) is
+    (one_known c.args.file c.args.last c.in_ok-place.place c.args.row.now m (g.S.PageStore.pages c.put_at.new.store)
+    (one_there c.args.file c.args.last c.in_ok-place.place c.args.row.now c.chain_page.new.out m (g.S.PageStore.pages c.put_at.new.store) (c.in_ok-chain_page.ensures.there m known)
+    (c.in_ok-place.ensures.laid m (c.in_ok-chain_page.ensures.same ∙ known)))) is
 
 pub returns-clause-place : goal.returns-clause-place
-returns-clause-place g c m told bound earlier lt is =
-    let laid = one_there c.args.file c.args.last c.in_ok-place.place c.args.row.now c.chain_page.new.out m (g.S.PageStore.pages c.put_at.new.store) (c.in_ok-chain_page.ensures.there m told)
-    (c.in_ok-place.ensures.laid m (c.in_ok-chain_page.ensures.same ∙ told)) in
-    one_more c.args.file bound earlier c.args.last c.in_ok-place.place c.args.row.now m laid.image (g.S.PageStore.pages c.put_at.new.store) laid.told_still laid.laid is
+returns-clause-place g c m known bound earlier lt is =
+    let laid = one_there c.args.file c.args.last c.in_ok-place.place c.args.row.now c.chain_page.new.out m (g.S.PageStore.pages c.put_at.new.store) (c.in_ok-chain_page.ensures.there m known)
+    (c.in_ok-place.ensures.laid m (c.in_ok-chain_page.ensures.same ∙ known)) in
+    one_more c.args.file bound earlier c.args.last c.in_ok-place.place c.args.row.now m laid.image (g.S.PageStore.pages c.put_at.new.store) laid.still_known laid.laid is
 
 pub returns-clause-others : goal.returns-clause-others
 returns-clause-others g c =
     others_kept c.args.file c.args.last c.in_ok-place.place.page (c.args.row.now ∷ []) c.chain_page.new.out (g.S.PageStore.pages c.args.store.now) (g.S.PageStore.pages c.put_at.new.store)
-    (λ m told. one_told c.args.file c.args.last c.in_ok-place.place c.args.row.now _ (g.S.PageStore.pages c.put_at.new.store) (c.in_ok-place.ensures.laid m (c.in_ok-chain_page.ensures.same ∙ told)))
+    (λ m known. one_known c.args.file c.args.last c.in_ok-place.place c.args.row.now _ (g.S.PageStore.pages c.put_at.new.store) (c.in_ok-place.ensures.laid m (c.in_ok-chain_page.ensures.same ∙ known)))
 
 pub returns-clause-came : goal.returns-clause-came
 returns-clause-came g c = λ s came. c.put_at.ensures.came s (c.chain_page.ensures.came s came)

@@ -22,7 +22,7 @@ returns-in_err-step-clause-cause g c =
     (OffChain c.args.chain.file c.pages.number c.args.chain.bound c.args.chain.last) (NoChainTo c.args.chain.file c.args.chain.bound c.args.chain.last)
     (g.S.PageStore.faults c.args.store.now) (g.S.PageStore.faults c.pages.store) (g.S.PageStore.faults c.renew_at.new.store) c.in_err-step.field-0.0 c.pages.invariant.faults
     (λ a fault m is. let so_far = c.pages.invariant.reached m is in
-    off_reached c.args.chain.file c.args.chain.bound c.pages.number c.args.chain.last c.args.going.now (take c.pages.put c.args.coming.now) c.pages.gone m (g.S.PageStore.pages c.pages.store) so_far a (fault so_far.image so_far.told_still))
+    off_reached c.args.chain.file c.args.chain.bound c.pages.number c.args.chain.last c.args.going.now (take c.pages.put c.args.coming.now) c.pages.gone m (g.S.PageStore.pages c.pages.store) so_far a (fault so_far.image so_far.still_known))
     c.in_err-step.ensures.cause c.from_residual.result c.from_residual.ensures.1
 
 pub returns-then-step-eq0-clause-passed : goal.returns-then-step-eq0-clause-passed
@@ -32,7 +32,7 @@ returns-then-step-eq0-clause-passed g c m is =
     (first_both c.pages.put c.in_ok-step.step.put c.args.coming.now c.split_at.result.1.now c.split_at.ensures.back)
     (passed c.args.chain.file c.args.chain.bound c.pages.number c.args.going.now (take c.pages.put c.args.coming.now) (take c.in_ok-step.step.put c.split_at.result.1.now)
     c.pages.gone c.in_ok-step.step.gone c.in_ok-step.step.next m (g.S.PageStore.pages c.pages.store) (g.S.PageStore.pages c.renew_at.new.store) so_far
-    (c.in_ok-step.ensures.renewed so_far.image so_far.told_still)
+    (c.in_ok-step.ensures.renewed so_far.image so_far.still_known)
     (elim c.then-step-eq0.branch [
       | then-step-eq0-via-then-step-eq0 w ↦ inl w.if-step-eq0.true
       | then-step-eq0-via-else-step-eq0+then-gone-wanted w ↦ inr (omega (arith, w.if-gone-wanted.true, c.len-wanted.ensures))
@@ -51,7 +51,7 @@ pages-preserved g c =
           (first_both c.pages.put c.in_ok-step.step.put c.args.coming.now c.split_at.result.1.now c.split_at.ensures.back)
           (reached_next c.args.chain.file c.args.chain.bound c.pages.number c.args.going.now (take c.pages.put c.args.coming.now) (take c.in_ok-step.step.put c.split_at.result.1.now)
           c.pages.gone c.in_ok-step.step.gone c.in_ok-step.step.next m (g.S.PageStore.pages c.pages.store) (g.S.PageStore.pages c.renew_at.new.store) so_far
-          (c.in_ok-step.ensures.renewed so_far.image so_far.told_still) some);
+          (c.in_ok-step.ensures.renewed so_far.image so_far.still_known) some);
       came = λ s h. c.renew_at.ensures.came s (c.pages.invariant.came s h);
       faults = c.in_ok-step.ensures.cause.caused ∙ c.pages.invariant.faults;
     }

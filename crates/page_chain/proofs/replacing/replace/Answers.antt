@@ -20,13 +20,13 @@ returns-in-Ok-clause-renewed g c m is earlier first chain lie =
     let all = renewed c.args.chain.file c.args.chain.bound earlier c.args.chain.last c.in_ok-last.last c.args.going.now c.args.coming.now c.in_ok-done.done.put c.in_ok-done.done.gone
     m (g.S.PageStore.pages c.pass_over.new.store) (g.S.PageStore.pages c.put_rest.new.store) its first chain lie
     (λ kept. subst (λ rows. IsGrown c.args.chain.file c.args.chain.bound earlier c.args.chain.last c.in_ok-last.last rows its.image (g.S.PageStore.pages c.put_rest.new.store)) c.split_at.ensures.back
-    (c.in_ok-last.ensures.grown its.image its.told_still earlier c.requires.last kept)) in
+    (c.in_ok-last.ensures.grown its.image its.still_known earlier c.requires.last kept)) in
     (let number = c.in-Ok.ensures in omega (arith, all.0, number), all.1)
 
 pub returns-in-Ok-clause-others : goal.returns-in-Ok-clause-others
 returns-in-Ok-clause-others g c =
     others_twice c.args.chain.file (g.S.PageStore.pages c.args.store.now) (g.S.PageStore.pages c.pass_over.new.store) (g.S.PageStore.pages c.put_rest.new.store)
-    (λ m is. let its = c.in_ok-done.ensures.passed m is in (its.image, its.told_still, its.elsewhere)) c.in_ok-last.ensures.others
+    (λ m is. let its = c.in_ok-done.ensures.passed m is in (its.image, its.still_known, its.elsewhere)) c.in_ok-last.ensures.others
 
 pub returns-in-Ok-clause-came : goal.returns-in-Ok-clause-came
 returns-in-Ok-clause-came g c = λ s came. c.put_rest.ensures.came s (c.pass_over.ensures.came s came)

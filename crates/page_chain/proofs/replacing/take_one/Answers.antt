@@ -1,5 +1,5 @@
 use Rattle.std.proofs.Common.{refl, ◌<◌, ◌∙◌, ◌∷◌, subst, arith}
-use Rattle.access_traits.specs.Causes.{IsAtFault}
+use Rattle.am_traits.specs.Causes.{IsAtFault}
 use Rattle.page_chain.specs.Chains.{OffPage, NoChain}
 use Rattle.page_chain.specs.Passing.{PageTook}
 use Rattle.page_chain.proofs.Carried.{cause_carried}
@@ -21,7 +21,7 @@ returns-in_err-taken-clause-cause g c =
     (OffPage c.args.file c.pages.number c.args.bound) (NoChain c.args.file c.args.bound)
     (g.S.PageStore.faults c.args.store.now) (g.S.PageStore.faults c.pages.store) (g.S.PageStore.faults c.take_at.new.store) c.in_err-taken.field-0.0 c.pages.invariant.faults
     (λ a fault. off_searched c.args.file c.args.bound c.pages.number c.args.row.now (g.S.PageStore.pages c.args.store.now) c.pages.invariant.searched a
-    (subst (λ told. IsAtFault told (OffPage c.args.file c.pages.number c.args.bound) a) c.pages.invariant.same fault))
+    (subst (λ known. IsAtFault known (OffPage c.args.file c.pages.number c.args.bound) a) c.pages.invariant.same fault))
     c.in_err-taken.ensures.cause c.from_residual.result c.from_residual.ensures.1
 
 pub returns-in-Some-clause-took : goal.returns-in-Some-clause-took

@@ -1,5 +1,5 @@
 use Rattle.std.proofs.Common.{◌≡◌, drop}
-use Rattle.am_traits.specs.Scans.{next_meeting}
+use Rattle.base_trait.specs.Scans.{next_meeting}
 use Rattle.plain_base.proofs.scanning.first_meeting.Given as goal
 
 abbrev pub invariant-loop-i : goal.invariant-loop-i

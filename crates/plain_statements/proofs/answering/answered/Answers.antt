@@ -1,6 +1,6 @@
 use Rattle.std.proofs.Common.{◌≡◌, ℕ}
 use Rattle.calculus.specs.declared.reply.Reply.TheVariants.{Refused}
-use Rattle.calculus.specs.Who.{Free}
+use Rattle.calculus.specs.Who.{Unrestricted}
 use Rattle.quel_meaning.specs.Copying.{refusal}
 use Rattle.quel_meaning.specs.Meaning.{answer_reply}
 use Rattle.plain_base.specs.Shown.{database_of}
@@ -10,9 +10,9 @@ use Rattle.plain_statements.proofs.Short.{query_short}
 use Rattle.plain_statements.proofs.Stops.{query_answered}
 use Rattle.plain_statements.proofs.answering.answered.Goals as goal
 
-pub returns-in-Err-clause-told : goal.returns-in-Err-clause-told
-returns-in-Err-clause-told c = λ db e.
-    ok_to (λ reply. (number : ℕ) × (c.from.result ≡ No number) × (reply ≡ Refused (refusal number))) (λ reply. reply ≡ answer_reply db Free c.args.asked.now)
+pub returns-in-Err-clause-known : goal.returns-in-Err-clause-known
+returns-in-Err-clause-known c = λ db e.
+    ok_to (λ reply. (number : ℕ) × (c.from.result ≡ No number) × (reply ≡ Refused (refusal number))) (λ reply. reply ≡ answer_reply db Unrestricted c.args.asked.now)
     (λ reply w. query_answered db c.args.asked.now _ _ _ c.in-Err.fault c.from.result reply e c.in-Err.ensures.cause.caused c.from.ensures w)
     c.answer_to.result c.answer_to.ensures.only
 

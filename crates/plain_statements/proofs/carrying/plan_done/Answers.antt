@@ -14,13 +14,13 @@ returns-in-Ok-clause-done c = λ files.
     ok_to (λ reply. change_effect (database_of c.work_planned.new.base) files (Ok c.in-Ok.change) ≡ effect_of (database_of c.laid.new.base) files reply)
     (λ reply. utility_effect (database_of c.args.base.now) files c.args.user.now c.args.work.now ≡ effect_of (database_of c.laid.new.base) files reply)
     (work_laid (database_of c.args.base.now) (database_of c.work_planned.new.base) files c.args.user.now c.args.work.now c.requires.planned c.in-Ok.ensures.kept
-    (database_of c.laid.new.base) c.in-Ok.change (c.in-Ok.ensures.told (database_of c.args.base.now) refl).0)
+    (database_of c.laid.new.base) c.in-Ok.change (c.in-Ok.ensures.known (database_of c.args.base.now) refl).0)
     c.laid.result (c.laid.ensures.done files)
 
 pub returns-in-Err-No-clause-done : goal.returns-in-Err-No-clause-done
 returns-in-Err-No-clause-done c = λ files.
     work_refused (database_of c.args.base.now) (database_of c.work_planned.new.base) files c.args.user.now c.args.work.now c.requires.planned c.in-Err-No.ensures.kept
-    c.in-Err-No.field-0 c.in-Err-No.number c.in-Err-No.field-0-is (c.in-Err-No.ensures.told (database_of c.args.base.now) refl)
+    c.in-Err-No.field-0 c.in-Err-No.number c.in-Err-No.field-0-is (c.in-Err-No.ensures.known (database_of c.args.base.now) refl)
     c.refused.result (c.refused.ensures ∙ ap (λ n. Refused (refusal n)) c.in-Err-No.number-is)
 
 pub short-requires : goal.short-requires

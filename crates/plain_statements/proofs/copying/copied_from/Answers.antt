@@ -18,7 +18,7 @@ laid-requires g c =
 pub returns-in-Ok-laid-clause-done : goal.returns-in-Ok-laid-clause-done
 returns-in-Ok-laid-clause-done g c = λ files e.
     from_done (database_of c.args.base.now) files c.args.user.now c.args.work.now (database_of c.laid.new.base) (g.H.Shelf.files c.copy_from.new.shelf) (c.copy_from.ensures.files ∙ e)
-    c.in-Ok-laid.reply c.requires.copies c.in-Ok.change (c.in-Ok.ensures.told (database_of c.args.base.now) files refl e c.requires.copies)
+    c.in-Ok-laid.reply c.requires.copies c.in-Ok.change (c.in-Ok.ensures.known (database_of c.args.base.now) files refl e c.requires.copies)
     (laid_same (database_of c.args.base.now) (database_of c.copy_from.new.base) (database_of c.laid.new.base) c.copy_from.ensures.kept files c.in-Ok.change c.in-Ok-laid.reply
     (c.in-Ok-laid.ensures.done files))
 
@@ -29,7 +29,7 @@ returns-clause-done g c = λ files e.
     (answer_is (λ reply. Leaves (utility_effect (database_of c.args.base.now) files c.args.user.now c.args.work.now) (database_of c.args.base.now) (g.H.Shelf.files c.copy_from.new.shelf) reply)
     c.in-Err.fault
     (from_answered (database_of c.args.base.now) files c.args.user.now c.args.work.now (g.H.Shelf.files c.copy_from.new.shelf) (c.copy_from.ensures.files ∙ e) c.requires.copies
-    c.in-Err.fault (c.in-Err.ensures.told (database_of c.args.base.now) files refl e c.requires.copies))
+    c.in-Err.fault (c.in-Err.ensures.known (database_of c.args.base.now) files refl e c.requires.copies))
     c.copy_answer.result c.copy_answer.ensures)
 
 pub returns-clause-cause : goal.returns-clause-cause

@@ -9,9 +9,9 @@ use Rattle.plain_statements.proofs.copying.copied_into.Goals as goal
 
 pub returns-in-Ok-clause-done : goal.returns-in-Ok-clause-done
 returns-in-Ok-clause-done g c = λ files e.
-    let told = c.in-Ok.ensures.told (database_of c.args.base.now) files refl e c.requires.copies in
+    let known = c.in-Ok.ensures.known (database_of c.args.base.now) files refl e c.requires.copies in
     left_same (database_of c.args.base.now) (database_of c.copy_into.new.base) c.copy_into.ensures.kept files c.args.user.now c.args.work.now (g.H.Shelf.files c.copy_into.new.shelf) Done
-    (into_done (database_of c.args.base.now) files c.args.user.now c.args.work.now (g.H.Shelf.files c.copy_into.new.shelf) c.requires.copies told.0 told.1 told.2)
+    (into_done (database_of c.args.base.now) files c.args.user.now c.args.work.now (g.H.Shelf.files c.copy_into.new.shelf) c.requires.copies known.0 known.1 known.2)
 
 pub returns-in-Err-clause-done : goal.returns-in-Err-clause-done
 returns-in-Err-clause-done g c = λ files e.
@@ -20,7 +20,7 @@ returns-in-Err-clause-done g c = λ files e.
     (answer_is (λ reply. Leaves (utility_effect (database_of c.args.base.now) files c.args.user.now c.args.work.now) (database_of c.args.base.now) (g.H.Shelf.files c.copy_into.new.shelf) reply)
     c.in-Err.fault
     (into_answered (database_of c.args.base.now) files c.args.user.now c.args.work.now (g.H.Shelf.files c.copy_into.new.shelf) c.requires.copies c.in-Err.fault
-    (c.in-Err.ensures.told (database_of c.args.base.now) files refl e c.requires.copies))
+    (c.in-Err.ensures.known (database_of c.args.base.now) files refl e c.requires.copies))
     c.copy_answer.result c.copy_answer.ensures)
 
 pub returns-in-Err-clause-cause : goal.returns-in-Err-clause-cause

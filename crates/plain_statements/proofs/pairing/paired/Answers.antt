@@ -1,6 +1,6 @@
 use Rattle.std.proofs.Common.{◌≡◌, ℕ, Err, sym, subst}
 use Rattle.calculus.specs.Replacement.{updated}
-use Rattle.calculus.specs.Who.{Free}
+use Rattle.calculus.specs.Who.{Unrestricted}
 use Rattle.plain_statements.specs.Stopping.{StopsBy}
 use Rattle.plain_statements.proofs.Short.{stopped_by, pair_caused}
 use Rattle.plain_statements.proofs.Stops.{RefusedBy, refused_by, pair_stops}
@@ -15,9 +15,9 @@ pairs_of-requires-clause-sources g c = λ db e. (c.requires db e).fit
 pub pairs_of-requires-clause-numbered : goal.pairs_of-requires-clause-numbered
 pairs_of-requires-clause-numbered g c = λ db e. (c.requires db e).numbered
 
-pub returns-in_err-pairs-clause-told : goal.returns-in_err-pairs-clause-told
-returns-in_err-pairs-clause-told g c = λ db e.
-    let refuses : ℕ → Type 0 = λ number. updated db Free c.args.u.now ≡ Err number in
+pub returns-in_err-pairs-clause-known : goal.returns-in_err-pairs-clause-known
+returns-in_err-pairs-clause-known g c = λ db e.
+    let refuses : ℕ → Type 0 = λ number. updated db Unrestricted c.args.u.now ≡ Err number in
     refused_by _ refuses c.from_residual.result c.from_residual.ensures
     (λ stop is. subst (RefusedBy refuses) (sym is) (pair_stops db c.args.u.now _ _ _ c.in_err-pairs.field-0.0 e c.in_err-pairs.ensures.cause.caused))
 

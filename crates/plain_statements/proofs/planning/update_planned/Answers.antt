@@ -6,11 +6,11 @@ use Rattle.plain_statements.proofs.planning.update_planned.Goals as goal
 pub paired-requires : goal.paired-requires
 paired-requires g c = λ db e. update_answered db c.args.u.now (c.requires db e)
 
-pub returns-clause-told : goal.returns-clause-told
-returns-clause-told g c = λ db e.
+pub returns-clause-known : goal.returns-clause-known
+returns-clause-known g c = λ db e.
     let new = makes_new db c.args.u.now (c.requires db e) in
     update_lawful db c.args.u.now (g.B.Base.lawful c.args.base.now db (g.B.Base.own c.args.base.now db e)) (c.requires db e) c.changed_by.result
-    (c.changed_by.ensures.told db (c.paired.ensures.kept ∙ e) new (c.in_ok-pairs.ensures.told db e))
+    (c.changed_by.ensures.known db (c.paired.ensures.kept ∙ e) new (c.in_ok-pairs.ensures.known db e))
 
 pub returns-clause-cause : goal.returns-clause-cause
 returns-clause-cause g c =

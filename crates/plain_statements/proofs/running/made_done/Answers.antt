@@ -1,9 +1,9 @@
 use Rattle.std.proofs.Common.{◌≡◌, ℕ, subst}
 use Rattle.std.specs.Prelude.{IfErr}
 use Rattle.calculus.specs.declared.reply.Reply.TheVariants.{Refused}
-use Rattle.calculus.specs.Who.{Free, asker_of}
+use Rattle.calculus.specs.Who.{Unrestricted, asker_of}
 use Rattle.quel_meaning.specs.Copying.{refusal}
-use Rattle.quel_meaning.specs.Meaning.{judged, judged_outcome, tree_meaning}
+use Rattle.quel_meaning.specs.Meaning.{checked_tree, checked_outcome, tree_meaning}
 use Rattle.session_run.specs.Standing.{Comes, state_on}
 use Rattle.plain_base.specs.Shown.{database_of}
 use Rattle.plain_statements.specs.declared.stopped.Stopped.TheVariants.{No}
@@ -16,8 +16,8 @@ use Rattle.plain_statements.proofs.running.made_done.Goals as goal
 
 pub returns-in-Ok-clause-done : goal.returns-in-Ok-clause-done
 returns-in-Ok-clause-done g c = λ ranges s files e made.
-    ok_to (λ reply. Leaves (tree_meaning (database_of c.args.base.now) files Free c.args.user.now c.in-Ok.tree) (database_of c.tree_done-done.new.base) (g.H.Shelf.files c.tree_done-done.new.shelf) reply)
-    (λ reply. Comes (judged_outcome (state_on (database_of c.args.base.now) ranges files) (asker_of c.args.user.now) (judged (database_of c.args.base.now) (asker_of c.args.user.now) ranges s)) (database_of c.tree_done-done.new.base) ranges (g.H.Shelf.files c.tree_done-done.new.shelf) reply)
+    ok_to (λ reply. Leaves (tree_meaning (database_of c.args.base.now) files Unrestricted c.args.user.now c.in-Ok.tree) (database_of c.tree_done-done.new.base) (g.H.Shelf.files c.tree_done-done.new.shelf) reply)
+    (λ reply. Comes (checked_outcome (state_on (database_of c.args.base.now) ranges files) (asker_of c.args.user.now) (checked_tree (database_of c.args.base.now) (asker_of c.args.user.now) ranges s)) (database_of c.tree_done-done.new.base) ranges (g.H.Shelf.files c.tree_done-done.new.shelf) reply)
     (λ reply h. tree_outcome (database_of c.args.base.now) (database_of c.tree_done-done.new.base) ranges files (g.H.Shelf.files c.tree_done-done.new.shelf) c.args.user.now s c.in-Ok.tree reply
     (subst (λ m. IsMade (database_of c.args.base.now) c.args.user.now ranges s m) c.in-Ok.is made).0 h)
     c.tree_done-done.result (c.tree_done-done.ensures.done files e)
@@ -25,7 +25,7 @@ returns-in-Ok-clause-done g c = λ ranges s files e made.
 pub returns-in-Err-clause-done : goal.returns-in-Err-clause-done
 returns-in-Err-clause-done g c = λ ranges s files e made.
     shelf_kept (λ reply. (number : ℕ) × (c.in-Err.stopped ≡ No number) × (reply ≡ Refused (refusal number)))
-    (λ reply. Comes (judged_outcome (state_on (database_of c.args.base.now) ranges files) (asker_of c.args.user.now) (judged (database_of c.args.base.now) (asker_of c.args.user.now) ranges s)) (database_of c.args.base.now) ranges (g.H.Shelf.files c.args.shelf.now) reply)
+    (λ reply. Comes (checked_outcome (state_on (database_of c.args.base.now) ranges files) (asker_of c.args.user.now) (checked_tree (database_of c.args.base.now) (asker_of c.args.user.now) ranges s)) (database_of c.args.base.now) ranges (g.H.Shelf.files c.args.shelf.now) reply)
     (λ reply w. refused_outcome (database_of c.args.base.now) (database_of c.args.base.now) ranges files (g.H.Shelf.files c.args.shelf.now) c.args.user.now s c.in-Err.stopped reply e
     (subst (λ m. IsMade (database_of c.args.base.now) c.args.user.now ranges s m) c.in-Err.is made) w)
     c.answer_to.result c.answer_to.ensures.only c.without_shelf.result c.without_shelf.ensures

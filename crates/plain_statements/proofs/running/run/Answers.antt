@@ -2,7 +2,7 @@ use Rattle.std.proofs.Common.{◌≡◌}
 use Rattle.calculus.specs.declared.statement.Statement.TheVariants.{Range}
 use Rattle.calculus.specs.Finding.{found}
 use Rattle.calculus.specs.Who.{asker_of}
-use Rattle.quel_meaning.specs.Meaning.{meaning, range_outcome, judged, judged_outcome}
+use Rattle.quel_meaning.specs.Meaning.{meaning, range_outcome, checked_tree, checked_outcome}
 use Rattle.session_run.specs.Standing.{Comes, state_on}
 use Rattle.plain_base.specs.Shown.{database_of}
 use Rattle.plain_statements.proofs.Effects.{ok_to, shelf_kept, shelf_unasked}
@@ -23,7 +23,7 @@ returns-in-Some-clause-cause g c = shelf_unasked (g.H.Shelf.faults c.args.shelf.
 
 pub returns-in-None-clause-outcome : goal.returns-in-None-clause-outcome
 returns-in-None-clause-outcome g c = λ files e.
-    ok_to (λ reply. Comes (judged_outcome (state_on (database_of c.args.base.now) c.args.ranges.now files) (asker_of c.args.user.now) (judged (database_of c.args.base.now) (asker_of c.args.user.now) c.args.ranges.now c.args.s.now)) (database_of c.carried_out.new.base) c.args.ranges.now (g.H.Shelf.files c.carried_out.new.shelf) reply)
+    ok_to (λ reply. Comes (checked_outcome (state_on (database_of c.args.base.now) c.args.ranges.now files) (asker_of c.args.user.now) (checked_tree (database_of c.args.base.now) (asker_of c.args.user.now) c.args.ranges.now c.args.s.now)) (database_of c.carried_out.new.base) c.args.ranges.now (g.H.Shelf.files c.carried_out.new.shelf) reply)
     (λ reply. Comes (meaning (state_on (database_of c.args.base.now) c.args.ranges.now files) (asker_of c.args.user.now) c.args.s.now) (database_of c.carried_out.new.base) c.args.ranges.now (g.H.Shelf.files c.carried_out.new.shelf) reply)
     (tree_done (database_of c.args.base.now) (database_of c.carried_out.new.base) c.args.ranges.now c.args.ranges.now files (g.H.Shelf.files c.carried_out.new.shelf) c.args.user.now c.args.s.now
     (c.range_of.ensures.none c.in-None.is))

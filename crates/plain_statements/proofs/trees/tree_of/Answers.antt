@@ -5,10 +5,10 @@ use Rattle.plain_statements.proofs.Carried.{checked_doable}
 use Rattle.plain_statements.proofs.Short.{stopped_by, check_caused}
 use Rattle.plain_statements.proofs.trees.tree_of.Goals as goal
 
-pub returns-clause-told : goal.returns-clause-told
-returns-clause-told g c = λ db e.
-    let told = c.in_ok-tree.ensures.told db e in
-    (told, checked_doable db c.args.user.now c.args.ranges.now c.args.s.now c.in_ok-tree.tree told)
+pub returns-clause-known : goal.returns-clause-known
+returns-clause-known g c = λ db e.
+    let known = c.in_ok-tree.ensures.known db e in
+    (known, checked_doable db c.args.user.now c.args.ranges.now c.args.s.now c.in_ok-tree.tree known)
 
 pub returns-in_err-tree-clause-cause : goal.returns-in_err-tree-clause-cause
 returns-in_err-tree-clause-cause g c =

@@ -7,7 +7,7 @@ use Rattle.quel_names.proofs.mentioned.first_refusal.Given as goal
 
 abbrev pub invariant-loop-mention : goal.invariant-loop-mention
 invariant-loop-mention g l = record {
-  told : (db : Db) → g.B.Base.schema l.fn.base ≡ Some db
+  known : (db : Db) → g.B.Base.schema l.fn.base ≡ Some db
       → first_number (map (mention_refusal (scope_of db l.user l.ranges)) (map seen (drop l.mention-index l.mentions)))
       ≡ first_number (map (mention_refusal (scope_of db l.user l.ranges)) (map seen l.mentions));
   kept : g.B.Base.database l.base ≡ g.B.Base.database l.fn.base;

@@ -1,4 +1,4 @@
 use Rattle.quel_names.proofs.refusal.head_refusal.Goals as goal
 
-pub returns-clause-told : goal.returns-clause-told
-returns-clause-told g c = λ db h. c.refusal_of.ensures.told db _ h c.head.ensures
+pub returns-clause-known : goal.returns-clause-known
+returns-clause-known g c = λ db h. c.refusal_of.ensures.known db _ h c.head.ensures

@@ -8,7 +8,7 @@ use Rattle.quel_names.proofs.text.items_refusal.Given as goal
 
 abbrev pub invariant-loop-item : goal.invariant-loop-item
 invariant-loop-item g l = record {
-  told : (db : Db) → g.B.Base.schema l.fn.base ≡ Some db
+  known : (db : Db) → g.B.Base.schema l.fn.base ≡ Some db
       → first_number (map (mention_refusal (scope_of db l.user l.ranges)) (flat_map (item_mentions (scope_of db l.user l.ranges) (meant_by l.role)) (drop l.item-index l.items)))
       ≡ first_number (map (mention_refusal (scope_of db l.user l.ranges)) (flat_map (item_mentions (scope_of db l.user l.ranges) (meant_by l.role)) l.items));
   kept : g.B.Base.database l.base ≡ g.B.Base.database l.fn.base;

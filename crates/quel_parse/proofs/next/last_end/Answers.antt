@@ -1,5 +1,5 @@
 use Rattle.std.proofs.Common.{◌-◌, length, arith}
-use Rattle.quel_parse.proofs.Told.{last_at}
+use Rattle.quel_parse.proofs.FirstTokens.{last_at}
 use Rattle.quel_parse.proofs.next.last_end.Goals as goal
 
 pub returns-in-len1-up : goal.returns-in-len1-up

@@ -8,23 +8,23 @@ use Rattle.quel_refusals.proofs.fitting.all_of_kinds.Goals as goal
 
 pub loop-target-preserved : goal.loop-target-preserved
 loop-target-preserved g c = record {
-  told = λ db h.
+  known = λ db h.
       let yes : c.has_kind.result ≡ true = cc (c.if-not-has_kind.false) in
-      let is = c.has_kind.ensures ∙ ap (λ o. has_kind o c.target-item.result.kind) (c.in_ok-kind.ensures.told db (c.loop-target.invariant.stays _ h)) in
+      let is = c.has_kind.ensures ∙ ap (λ o. has_kind o c.target-item.result.kind) (c.in_ok-kind.ensures.known db (c.loop-target.invariant.stays _ h)) in
       list_all_more (λ t. has_kind (kind_in_query db t.term (map vec_items c.args.vars.now)) t.kind) c.args.targets.now c.loop-target.target-index c.target-item.result c.loop-target-test.true
-      ∙ (λ i. c.loop-target.invariant.told db h i && (ap (λ t. has_kind (kind_in_query db t.term (map vec_items c.args.vars.now)) t.kind) (sym c.target-item.is) ∙ sym is ∙ yes) i);
+      ∙ (λ i. c.loop-target.invariant.known db h i && (ap (λ t. has_kind (kind_in_query db t.term (map vec_items c.args.vars.now)) t.kind) (sym c.target-item.is) ∙ sym is ∙ yes) i);
   kept = c.in_ok-kind.ensures.kept ∙ c.loop-target.invariant.kept;
   stays = λ s h. c.in_ok-kind.ensures.stays s (c.loop-target.invariant.stays s h);
   asked = λ b was. c.in_ok-kind.ensures.asked b (c.loop-target.invariant.asked b was);
   faults = c.in_ok-kind.ensures.cause.caused ∙ c.loop-target.invariant.faults;
 }
 
-pub returns-then-not-has_kind-clause-told : goal.returns-then-not-has_kind-clause-told
-returns-then-not-has_kind-clause-told g c = λ db h.
+pub returns-then-not-has_kind-clause-known : goal.returns-then-not-has_kind-clause-known
+returns-then-not-has_kind-clause-known g c = λ db h.
     let no : c.has_kind.result ≡ false = cc (c.if-not-has_kind.true) in
-    let is = c.has_kind.ensures ∙ ap (λ o. has_kind o c.target-item.result.kind) (c.in_ok-kind.ensures.told db (c.loop-target.invariant.stays _ h)) in
+    let is = c.has_kind.ensures ∙ ap (λ o. has_kind o c.target-item.result.kind) (c.in_ok-kind.ensures.known db (c.loop-target.invariant.stays _ h)) in
     sym (list_all_at (λ t. has_kind (kind_in_query db t.term (map vec_items c.args.vars.now)) t.kind) c.args.targets.now c.loop-target.target-index c.target-item.result c.loop-target-test.true
     (ap (λ t. has_kind (kind_in_query db t.term (map vec_items c.args.vars.now)) t.kind) (sym c.target-item.is) ∙ sym is ∙ no))
 
-pub returns-clause-told : goal.returns-clause-told
-returns-clause-told g c = λ db h. sym (c.loop-target.invariant.told db h) ∙ ap (list_all (λ t. has_kind (kind_in_query db t.term (map vec_items c.args.vars.now)) t.kind)) (take_all c.loop-target.target-index c.args.targets.now c.loop-target-test.false)
+pub returns-clause-known : goal.returns-clause-known
+returns-clause-known g c = λ db h. sym (c.loop-target.invariant.known db h) ∙ ap (list_all (λ t. has_kind (kind_in_query db t.term (map vec_items c.args.vars.now)) t.kind)) (take_all c.loop-target.target-index c.args.targets.now c.loop-target-test.false)

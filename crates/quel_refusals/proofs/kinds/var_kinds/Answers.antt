@@ -5,9 +5,9 @@ use Rattle.quel_refusals.proofs.kinds.var_kinds.Goals as goal
 
 pub loop-key-preserved : goal.loop-key-preserved
 loop-key-preserved g c = record {
-  told = λ db h.
+  known = λ db h.
       c.in_ok-put_behind.ensures
-      ∙ (λ i. c.loop-key.invariant.told db h i ++ (c.in_ok-more.ensures.told db (c.loop-key.invariant.stays _ h) ∙ ap (kinds_at db) c.key-item.is) i ∷ [])
+      ∙ (λ i. c.loop-key.invariant.known db h i ++ (c.in_ok-more.ensures.known db (c.loop-key.invariant.stays _ h) ∙ ap (kinds_at db) c.key-item.is) i ∷ [])
       ∙ sym (map_more (kinds_at db) c.args.vars.now c.loop-key.key-index c.key-item.result c.loop-key-test.true);
   kept = c.in_ok-more.ensures.kept ∙ c.loop-key.invariant.kept;
   stays = λ s h. c.in_ok-more.ensures.stays s (c.loop-key.invariant.stays s h);
@@ -15,5 +15,5 @@ loop-key-preserved g c = record {
   faults = c.in_ok-more.ensures.cause.caused ∙ c.loop-key.invariant.faults;
 }
 
-pub returns-clause-told : goal.returns-clause-told
-returns-clause-told g c = λ db h. c.loop-key.invariant.told db h ∙ ap (map (kinds_at db)) (take_all c.loop-key.key-index c.args.vars.now c.loop-key-test.false)
+pub returns-clause-known : goal.returns-clause-known
+returns-clause-known g c = λ db h. c.loop-key.invariant.known db h ∙ ap (map (kinds_at db)) (take_all c.loop-key.key-index c.args.vars.now c.loop-key-test.false)

@@ -6,7 +6,7 @@ use Rattle.quel_resolve.proofs.targets.targets_from.Given as goal
 
 abbrev pub invariant-loop-item : goal.invariant-loop-item
 invariant-loop-item g l = record {
-  told : (db : Db) → g.B.Base.schema l.initial.base ≡ Some db → Puts db l.known.vars.now l.known.infos.now l.known.inner_vars.now l.known.inner_infos.now 0 (take l.item-index l.items) [] l.targets.items;
+  known : (db : Db) → g.B.Base.schema l.initial.base ≡ Some db → Puts db l.known.vars.now l.known.infos.now l.known.inner_vars.now l.known.inner_infos.now 0 (take l.item-index l.items) [] l.targets.items;
   counted : count (take l.item-index l.items) ≤ 65535 → l.slot ≡ count (take l.item-index l.items);
   kept : g.B.Base.database l.base ≡ g.B.Base.database l.initial.base;
   stays : (s : Db) → g.B.Base.schema l.initial.base ≡ Some s → g.B.Base.schema l.base ≡ Some s;

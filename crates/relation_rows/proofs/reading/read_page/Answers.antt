@@ -28,9 +28,9 @@ returns-clause-reads g c = c.page_rows.ensures.reads
 pub returns-in_err-found-clause-reads : goal.returns-in_err-found-clause-reads
 returns-in_err-found-clause-reads g c = c.page_rows.ensures.reads
 
-pub returns-clause-told : goal.returns-clause-told
-returns-clause-told g c m placed t e =
-    page_read placed c.args.number c.in_ok-found.found c.args.rows.now.items c.put_behind.new.rows.items (c.in_ok-found.ensures.told m placed t e) c.in_ok-put_behind.ensures
+pub returns-clause-known : goal.returns-clause-known
+returns-clause-known g c m placed t e =
+    page_read placed c.args.number c.in_ok-found.found c.args.rows.now.items c.put_behind.new.rows.items (c.in_ok-found.ensures.known m placed t e) c.in_ok-put_behind.ensures
 
 pub returns-clause-stands : goal.returns-clause-stands
 returns-clause-stands g c m t = c.in_ok-found.ensures.stands m t

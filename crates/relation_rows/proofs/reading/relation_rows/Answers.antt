@@ -1,6 +1,6 @@
 use Rattle.std.proofs.Common.{rules, ap, sym, subst, arith, ◌∙◌, ◌++◌, refl}
-use Rattle.access_traits.specs.Causes.{HasFileCause}
-use Rattle.access_traits.specs.Placed.{rows_from}
+use Rattle.am_traits.specs.Causes.{HasFileCause}
+use Rattle.am_traits.specs.Placed.{rows_from}
 use Rattle.page_chain.specs.Lying.{place_of}
 use Rattle.heap_am.specs.Heap.{HeapFault, heap_rows}
 use Rattle.heap_am.proofs.Faults.{cause_later}
@@ -16,14 +16,14 @@ returns-in_err-read_page-clause-cause g c =
 
 pub returns-clause-exact : goal.returns-clause-exact
 returns-clause-exact g c m t =
-    is_read c.args.file m c.pages.number c.pages.rows.items c.of.result c.requires.pages (omega arith) c.of.ensures (λ placed e. c.pages.invariant.told m placed t e) (c.pages.invariant.stand m t)
+    is_read c.args.file m c.pages.number c.pages.rows.items c.of.result c.requires.pages (omega arith) c.of.ensures (λ placed e. c.pages.invariant.known m placed t e) (c.pages.invariant.stand m t)
 
 pub pages-preserved : goal.pages-preserved
 pages-preserved g c =
     let so_far = c.pages.invariant in
     let opened = c.open_method-method.ensures in
     record {
-      told = λ m placed t e. so_far.told m placed t e ∙ c.in_ok-read_page.ensures.told m placed (so_far.same ∙ t) (ap (λ file. heap_rows file m) opened ∙ e);
+      known = λ m placed t e. so_far.known m placed t e ∙ c.in_ok-read_page.ensures.known m placed (so_far.same ∙ t) (ap (λ file. heap_rows file m) opened ∙ e);
       stand = λ m t. one_stands c.args.file c.open_method-method.result.heap.file m c.pages.number opened (so_far.stand m t) (c.in_ok-read_page.ensures.stands m (so_far.same ∙ t));
       same = c.read_page.ensures.same ∙ so_far.same;
       reads = (let one = c.read_page.ensures.reads in record { later = omega (arith, so_far.reads.later, one.later); at_most = omega (arith, so_far.reads.at_most, one.at_most) });
@@ -34,7 +34,7 @@ pages-preserved g c =
 
 pub pages-init : goal.pages-init
 pages-init g c = record {
-  told = λ m placed t e. sym (none_read c.args.file m placed c.requires.pages e) ∙ ap (λ rows. rows ++ rows_from placed (place_of 0 0)) (sym c.new-rows.ensures.items);
+  known = λ m placed t e. sym (none_read c.args.file m placed c.requires.pages e) ∙ ap (λ rows. rows ++ rows_from placed (place_of 0 0)) (sym c.new-rows.ensures.items);
   stand = search rules;
   same = search rules;
   reads = search rules;

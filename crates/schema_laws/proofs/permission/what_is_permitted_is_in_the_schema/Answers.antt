@@ -1,5 +1,5 @@
 use Rattle.schema_laws.proofs.Through.{permitted_alike, readable_alike}
-use Rattle.schema_laws.proofs.Told.{query_permitted_alike, update_permitted_alike}
+use Rattle.schema_laws.proofs.Known.{query_permitted_alike, update_permitted_alike}
 use Rattle.schema_laws.proofs.permission.what_is_permitted_is_in_the_schema.Goals as goal
 
 pub returns-clause-rights : goal.returns-clause-rights

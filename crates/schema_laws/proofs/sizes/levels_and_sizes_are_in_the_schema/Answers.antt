@@ -1,5 +1,5 @@
 use Rattle.schema_laws.proofs.Through.{level_alike, measure_alike, reads_alike}
-use Rattle.schema_laws.proofs.Told.{query_level_alike, size_alike, expanded_alike, update_expanded_alike}
+use Rattle.schema_laws.proofs.Known.{query_level_alike, size_alike, expanded_alike, update_expanded_alike}
 use Rattle.schema_laws.proofs.sizes.levels_and_sizes_are_in_the_schema.Goals as goal
 
 pub returns-clause-levels : goal.returns-clause-levels

@@ -1,6 +1,6 @@
 use Rattle.std.proofs.Common.{◌≡◌, ◌∙◌, ℕ, List, [], true, length, ap, sym, subst, rules}
 use Rattle.std.specs.List.{list_all}
-use Rattle.fault_io.specs.Told.{IsFront, GrewBy}
+use Rattle.fault_io.specs.Known.{IsFront, GrewBy}
 use Rattle.quel_meaning.specs.Lines.{is_no_newline}
 use Rattle.quel_meaning.specs.Session.{printed}
 use Rattle.session_run.specs.Doing.{Did}

@@ -2,7 +2,7 @@ use Rattle.calculus.specs.Who.{Asker}
 use Rattle.std.proofs.Common.{◌≡◌, ◌∙◌, ℕ, List, [], true, arith, refl, sym, subst}
 use Rattle.std.specs.List.{list_all}
 use Rattle.std.proofs.KnownBytes.{Appends-nil}
-use Rattle.fault_io.specs.Told.{IsFront, GrewBy}
+use Rattle.fault_io.specs.Known.{IsFront, GrewBy}
 use Rattle.quel_meaning.specs.Lines.{is_no_newline}
 use Rattle.quel_meaning.specs.Session.{printed}
 use Rattle.session_run.specs.Doing.{Did}
@@ -39,7 +39,7 @@ pub returns-in_err-count-clause-broken_off : goal.returns-in_err-count-clause-br
 returns-in_err-count-clause-broken_off g c = λ state begun.
     let was = c.script.invariant.0 state begun in
     let plain = subst (λ (x : List ℕ). list_all is_no_newline x ≡ true) (sym was.1.partial) c.partial-front.ensures.front in
-    λ e. breaks_off _ _ _ _ _ _ _ _ _ _ was.3 was.2 plain c.in_err-count.ensures.bytes was.1.kept.stands.told_so
+    λ e. breaks_off _ _ _ _ _ _ _ _ _ _ was.3 was.2 plain c.in_err-count.ensures.bytes was.1.kept.stands.known_so
 
 pub returns-then-given-eq-LONGEST_SCRIPT-clause-partly : goal.returns-then-given-eq-LONGEST_SCRIPT-clause-partly
 returns-then-given-eq-LONGEST_SCRIPT-clause-partly g c = λ state begun.
@@ -54,7 +54,7 @@ returns-then-given-eq-LONGEST_SCRIPT-clause-cut_off g c = λ state begun.
     cuts_off _ _ _ _ _ _ _ _ _ _ _ was.3 c.if-given-eq-LONGEST_SCRIPT.true was.2 plain
     c.in_ok-count.ensures.bytes.0
     (grind (arith, common_steps))
-    was.1.kept.stands.told_so
+    was.1.kept.stands.known_so
 
 pub returns-then-given-eq-LONGEST_SCRIPT-clause-keeps_up : goal.returns-then-given-eq-LONGEST_SCRIPT-clause-keeps_up
 returns-then-given-eq-LONGEST_SCRIPT-clause-keeps_up g c = λ state begun.
@@ -83,7 +83,7 @@ returns-then-has_quit-clause-done g c = λ state begun.
     (goes_on _ _ _ _ _ _ _ _ _ did.0 _ _ _ c.in_ok-count.count was.3 c.in_ok-count.ensures.bytes.0 (grind (arith, common_steps)) (grind (arith, common_steps))
     (same_hears g.S.Statements.meaning _ _ was.0 did.0 _ _ _ c.script.invariant.2 did.2))
     (did.1.kept.quit ∙ sym c.has_quit.ensures ∙ c.if-has_quit.true)
-    did.1.kept.stands.told_so
+    did.1.kept.stands.known_so
 
 pub returns-then-has_quit-clause-partly : goal.returns-then-has_quit-clause-partly
 returns-then-has_quit-clause-partly g c = λ state begun.
@@ -139,7 +139,7 @@ returns-clause-done g c = λ state begun.
     let closed = c.in_ok-close.ensures.whole was.0 was.1 in
     closes _ _ _ _ _ _ _ _ _ _ closed.0 (reads_none _ _ _ _ _ _ _ _ _ _ was.3 c.in_ok-count.ensures.bytes.0 (grind (arith, common_steps))) (c.in_ok-count.ensures.bytes.1 c.if-count-eq0.true (grind (arith, common_steps)))
     (subst (λ (u : Asker). GrewBy (g.K.Sink.written c.script.sink) (g.K.Sink.written c.close.new.sink) (λ more. Did (later (g.S.Statements.meaning u) true was.0 []) [] more closed.0)) c.script.invariant.2 closed.2)
-    closed.1.stands.told_so
+    closed.1.stands.known_so
 
 pub returns-clause-partly : goal.returns-clause-partly
 returns-clause-partly g c = λ state begun.

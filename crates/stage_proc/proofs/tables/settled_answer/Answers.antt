@@ -4,15 +4,15 @@ use Rattle.calculus.specs.Assignments.{assigned}
 use Rattle.calculus.specs.Table.{tabled}
 use Rattle.calculus.specs.Targets.{rows_given}
 use Rattle.calculus.specs.VariableRows.{rows_of}
-use Rattle.calculus.specs.Who.{Free}
+use Rattle.calculus.specs.Who.{Unrestricted}
 use Rattle.ovqp.specs.Causes.{HasCause as HasAnswerCause}
 use Rattle.stage_proc.proofs.Tabling.{if_ok, on_ok, answer_by_tables, lacks_by_tables, settled_cause}
 use Rattle.stage_proc.proofs.tables.settled_answer.Goals as goal
 
-pub returns-clause-told : goal.returns-clause-told
-returns-clause-told g c = λ db e.
+pub returns-clause-known : goal.returns-clause-known
+returns-clause-known g c = λ db e.
     let tables = c.in_ok-tables.tables.items in
-    if_ok (λ set. set ≡ rows_given (tabled tables) c.args.q.now (assigned (rows_of db Free) c.args.q.now)) (λ set. set ≡ answer db Free c.args.q.now)
+    if_ok (λ set. set ≡ rows_given (tabled tables) c.args.q.now (assigned (rows_of db Unrestricted) c.args.q.now)) (λ set. set ≡ answer db Unrestricted c.args.q.now)
     (λ set is. answer_by_tables db c.args.q.now tables set (c.in_ok-tables.ensures.rows db e) is)
     c.answer_by.result (c.answer_by.ensures.rows db (c.settle.ensures.kept ∙ e))
 
@@ -26,4 +26,4 @@ pub returns-clause-cause : goal.returns-clause-cause
 returns-clause-cause g c =
     settled_cause c.args.q.now c.in_ok-tables.tables.items (g.B.Base.database c.args.base.now) (g.B.Base.faults c.args.base.now) (g.B.Base.faults c.settle.new.base) (g.B.Base.faults c.answer_by.new.base) c.answer_by.result
     c.in_ok-tables.ensures.values c.in_ok-tables.ensures.truth c.in_ok-tables.ensures.lacks c.in_ok-tables.ensures.cause.caused
-    (subst (λ told. HasAnswerCause (tabled c.in_ok-tables.tables.items) c.args.q.now told (g.B.Base.faults c.settle.new.base) (g.B.Base.faults c.answer_by.new.base) c.answer_by.result) c.settle.ensures.kept c.answer_by.ensures.cause)
+    (subst (λ known. HasAnswerCause (tabled c.in_ok-tables.tables.items) c.args.q.now known (g.B.Base.faults c.settle.new.base) (g.B.Base.faults c.answer_by.new.base) c.answer_by.result) c.settle.ensures.kept c.answer_by.ensures.cause)

@@ -7,8 +7,8 @@ use Rattle.stage_proc.proofs.tables.table_with.Goals as goal
 pub returns-in-Ok-clause-columns : goal.returns-in-Ok-clause-columns
 returns-in-Ok-clause-columns c = c.of.ensures ∙ c.in-Ok.ensures ∙ ap (map column_of) (c.items.ensures ∙ targets_is c.args.asked.now.query)
 
-pub returns-in-Ok-clause-told : goal.returns-in-Ok-clause-told
-returns-in-Ok-clause-told c = λ db is.
+pub returns-in-Ok-clause-known : goal.returns-in-Ok-clause-known
+returns-in-Ok-clause-known c = λ db is.
     let asked = c.args.asked.now in
     made_table db asked c.of.result c.of-in-Ok.result
     (c.of.ensures ∙ c.in-Ok.ensures ∙ ap (map column_of) (c.items.ensures ∙ targets_is asked.query))

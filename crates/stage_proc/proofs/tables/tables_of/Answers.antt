@@ -1,7 +1,7 @@
 use Rattle.std.proofs.Common.{rules, ◌≡◌, refl, sym, ap, ◌∙◌, map, Err, subst, arith}
 use Rattle.std.proofs.lemmas.List.{take_all}
 use Rattle.calculus.specs.QueryParts.{targets_of}
-use Rattle.calculus.specs.Who.{Free}
+use Rattle.calculus.specs.Who.{Unrestricted}
 use Rattle.quel_meaning.specs.Tables.{column_of, table_of, some_query_lacks}
 use Rattle.stage_proc.specs.TableCauses.{CanBeAnswered, LacksIn, MayFail}
 use Rattle.stage_proc.proofs.Tabling.{next_made, next_part, none_yet, next_none, one_of, one_fails}
@@ -14,7 +14,7 @@ loop-one-init g c = record {
   asked = λ b was. was;
   faults = refl;
   columns = ap (map (λ t. t.columns)) c.new-tables.ensures.items;
-  told = λ db e. c.new-tables.ensures.items;
+  known = λ db e. c.new-tables.ensures.items;
   none_lacks = λ db e. none_yet db;
 }
 
@@ -39,7 +39,7 @@ returns-in_err-table-clause-cause g c =
     let is : c.from_residual.result ≡ Err fault = search rules in
     one_fails c.args.asked.now c.loop-one.one-index c.one-item.result (g.B.Base.database c.args.base.now) (g.B.Base.faults c.args.base.now) (g.B.Base.faults c.loop-one.base) (g.B.Base.faults c.table_of.new.base) fault
     c.from_residual.result c.loop-one-test.true c.one-item.is is c.loop-one.invariant.faults c.in_err-table.ensures.cause.later
-    (subst (λ told. MayFail (λ db at. LacksIn db c.one-item.result.query at) told (g.B.Base.faults c.loop-one.base) (g.B.Base.faults c.table_of.new.base) fault) c.loop-one.invariant.kept c.in_err-table.ensures.cause.caused)
+    (subst (λ known. MayFail (λ db at. LacksIn db c.one-item.result.query at) known (g.B.Base.faults c.loop-one.base) (g.B.Base.faults c.table_of.new.base) fault) c.loop-one.invariant.kept c.in_err-table.ensures.cause.caused)
 
 pub loop-one-preserved : goal.loop-one-preserved
 loop-one-preserved g c = record {
@@ -50,10 +50,10 @@ loop-one-preserved g c = record {
   columns =
       next_part (λ a. map column_of (targets_of a.query)) (λ t. t.columns) c.args.asked.now c.loop-one.one-index c.one-item.result c.loop-one.tables.items c.push.new.items.items c.in_ok-table.table c.loop-one-test.true c.one-item.is
       c.loop-one.invariant.columns c.in_ok-table.ensures.columns c.in_ok-push.ensures.behind;
-  told = λ db e.
-      next_made (table_of db Free) c.args.asked.now c.loop-one.one-index c.one-item.result c.loop-one.tables.items c.push.new.items.items c.in_ok-table.table c.loop-one-test.true c.one-item.is
-      (c.loop-one.invariant.told db e)
-      (c.in_ok-table.ensures.told db (c.loop-one.invariant.kept ∙ e))
+  known = λ db e.
+      next_made (table_of db Unrestricted) c.args.asked.now c.loop-one.one-index c.one-item.result c.loop-one.tables.items c.push.new.items.items c.in_ok-table.table c.loop-one-test.true c.one-item.is
+      (c.loop-one.invariant.known db e)
+      (c.in_ok-table.ensures.known db (c.loop-one.invariant.kept ∙ e))
       c.in_ok-push.ensures.behind;
   none_lacks = λ db e.
       next_none db c.args.asked.now c.loop-one.one-index c.one-item.result c.loop-one-test.true c.one-item.is (c.loop-one.invariant.none_lacks db e)
@@ -65,8 +65,8 @@ returns-clause-columns g c =
     ap (map (λ t. t.columns)) c.of-tables.ensures ∙ c.loop-one.invariant.columns
     ∙ ap (map (λ a. map column_of (targets_of a.query))) (take_all c.loop-one.one-index c.args.asked.now (omega arith))
 
-pub returns-clause-told : goal.returns-clause-told
-returns-clause-told g c = λ db e. c.of-tables.ensures ∙ c.loop-one.invariant.told db e ∙ ap (map (table_of db Free)) (take_all c.loop-one.one-index c.args.asked.now (omega arith))
+pub returns-clause-known : goal.returns-clause-known
+returns-clause-known g c = λ db e. c.of-tables.ensures ∙ c.loop-one.invariant.known db e ∙ ap (map (table_of db Unrestricted)) (take_all c.loop-one.one-index c.args.asked.now (omega arith))
 
 pub returns-clause-none_lacks : goal.returns-clause-none_lacks
-returns-clause-none_lacks g c = λ db e. ap (some_query_lacks db Free) (sym (take_all c.loop-one.one-index c.args.asked.now (omega arith))) ∙ c.loop-one.invariant.none_lacks db e
+returns-clause-none_lacks g c = λ db e. ap (some_query_lacks db Unrestricted) (sym (take_all c.loop-one.one-index c.args.asked.now (omega arith))) ∙ c.loop-one.invariant.none_lacks db e

@@ -1,7 +1,7 @@
 use Rattle.std.proofs.Common.{◌≡◌, Some, false, map, take}
 use Rattle.calculus.specs.Database.{Db}
 use Rattle.calculus.specs.QueryParts.{targets_of}
-use Rattle.calculus.specs.Who.{Free}
+use Rattle.calculus.specs.Who.{Unrestricted}
 use Rattle.quel_meaning.specs.Tables.{column_of, table_of, some_query_lacks}
 use Rattle.stage_proc.proofs.tables.tables_of.Given as goal
 
@@ -12,6 +12,6 @@ invariant-loop-one g l = record {
   asked : (b : _) → g.B.Base.asked b l.fn.base → g.B.Base.asked b l.base;
   faults : g.B.Base.faults l.base ≡ g.B.Base.faults l.fn.base;
   columns : map (λ t. t.columns) l.tables.items ≡ map (λ a. map column_of (targets_of a.query)) (take l.one-index l.asked);
-  told : (db : Db) → g.B.Base.database l.fn.base ≡ Some db → l.tables.items ≡ map (table_of db Free) (take l.one-index l.asked);
-  none_lacks : (db : Db) → g.B.Base.database l.fn.base ≡ Some db → some_query_lacks db Free (take l.one-index l.asked) ≡ false;
+  known : (db : Db) → g.B.Base.database l.fn.base ≡ Some db → l.tables.items ≡ map (table_of db Unrestricted) (take l.one-index l.asked);
+  none_lacks : (db : Db) → g.B.Base.database l.fn.base ≡ Some db → some_query_lacks db Unrestricted (take l.one-index l.asked) ≡ false;
 }

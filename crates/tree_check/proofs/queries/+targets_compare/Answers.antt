@@ -6,12 +6,12 @@ use Rattle.calculus.specs.Kinds.{comparable}
 use Rattle.quel_meaning.specs.KindsInQueries.{kind_in_query}
 use Rattle.tree_check.proofs.queries.+targets_compare.Goals as goal
 
-pub returns-clause-told : goal.returns-clause-told
-returns-clause-told g t c = λ db h.
+pub returns-clause-known : goal.returns-clause-known
+returns-clause-known g t c = λ db h.
     let is : c.args.targets.now ≡ c.in-Some.target.now ∷ c.in-Some.others.now = search rules in
     let yes : c.comparable.result ≡ true = cc (c.if-not-comparable.false) in
     subst (λ (b : Bool). IfOk c.targets_compare.result (λ fit. fit ≡ b))
     (ap (λ b. b && list_all (λ (t : Target). comparable (kind_in_query db t.term (map vec_items c.args.vars.now)) (Some t.kind)) c.in-Some.others.now)
-    (sym (sym (c.comparable.ensures ∙ ap (λ o. comparable o (Some c.in-Some.target.now.kind)) (c.in_ok-kind.ensures.told db h)) ∙ yes))
+    (sym (sym (c.comparable.ensures ∙ ap (λ o. comparable o (Some c.in-Some.target.now.kind)) (c.in_ok-kind.ensures.known db h)) ∙ yes))
     ∙ sym (ap (list_all (λ (t : Target). comparable (kind_in_query db t.term (map vec_items c.args.vars.now)) (Some t.kind))) is))
-    (c.targets_compare.ensures.told db (c.in_ok-kind.ensures.stays db h))
+    (c.targets_compare.ensures.known db (c.in_ok-kind.ensures.stays db h))

@@ -3,7 +3,7 @@ use Rattle.calculus.specs.Stored.{kinds_at}
 use Rattle.view_sizes.proofs.Counting.{vars_is}
 use Rattle.tree_check.proofs.queries.update_kinds_fit.Goals as goal
 
-pub returns-clause-told : goal.returns-clause-told
-returns-clause-told g c = λ db h.
-    c.changes_fit_over-fit.ensures.told db (c.in_ok-kinds.ensures.stays db h)
-    (sym (ap (map vec_items) c.deref.ensures.value ∙ c.in_ok-kinds.ensures.told db h ∙ ap (map (kinds_at db)) (c.items.ensures ∙ vars_is c.args.q.now)))
+pub returns-clause-known : goal.returns-clause-known
+returns-clause-known g c = λ db h.
+    c.changes_fit_over-fit.ensures.known db (c.in_ok-kinds.ensures.stays db h)
+    (sym (ap (map vec_items) c.deref.ensures.value ∙ c.in_ok-kinds.ensures.known db h ∙ ap (map (kinds_at db)) (c.items.ensures ∙ vars_is c.args.q.now)))

@@ -6,7 +6,7 @@ use Rattle.tree_check.proofs.sources.all_sources_fit.Given as goal
 
 abbrev pub invariant-loop-aggregate : goal.invariant-loop-aggregate
 invariant-loop-aggregate g l = record {
-  told : (db : Db) → g.B.Base.schema l.initial.base ≡ Some db → list_all (λ g. source_fits (kept_alone db) db g.now.source) (take l.aggregate-index l.aggregates) ≡ true;
+  known : (db : Db) → g.B.Base.schema l.initial.base ≡ Some db → list_all (λ g. source_fits (kept_alone db) db g.now.source) (take l.aggregate-index l.aggregates) ≡ true;
   kept : g.B.Base.database l.base ≡ g.B.Base.database l.initial.base;
   stays : (s : Db) → g.B.Base.schema l.initial.base ≡ Some s → g.B.Base.schema l.base ≡ Some s;
   asked : (b : _) → g.B.Base.asked b l.initial.base → g.B.Base.asked b l.base;

@@ -3,7 +3,7 @@ use Rattle.tree_check.specs.Columned.{columns_are_fit}
 use Rattle.tree_check.proofs.Stood.{copied}
 use Rattle.tree_check.proofs.utilities.may_be_copied.Goals as goal
 
-pub returns-in-Some-clause-told : goal.returns-in-Some-clause-told
-returns-in-Some-clause-told g c = λ db h.
+pub returns-in-Some-clause-known : goal.returns-in-Some-clause-known
+returns-in-Some-clause-known g c = λ db h.
     c.columns_fit.ensures ∙ ap (λ attrs. columns_are_fit attrs c.args.columns.now) c.items.ensures
-    ∙ copied db c.args.rel.now c.args.columns.now _ _ (c.in_ok-info.ensures.told db h) c.in-Some.is
+    ∙ copied db c.args.rel.now c.args.columns.now _ _ (c.in_ok-info.ensures.known db h) c.in-Some.is

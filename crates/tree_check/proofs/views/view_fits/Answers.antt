@@ -7,13 +7,13 @@ use Rattle.tree_check.proofs.Parts.{stops, goes_on}
 use Rattle.tree_check.proofs.UtilityForms.{viewed}
 use Rattle.tree_check.proofs.views.view_fits.Goals as goal
 
-pub returns-then-not-branch-clause-told : goal.returns-then-not-branch-clause-told
-returns-then-not-branch-clause-told g c = λ db h.
+pub returns-then-not-branch-clause-known : goal.returns-then-not-branch-clause-known
+returns-then-not-branch-clause-known g c = λ db h.
     let no : attrs_stand (map target_attr (targets_of c.args.q.now)) ≡ false = cc (c.in_ok-target_attrs_stand.ensures, c.if-not-branch.true) in
     stops _ _ false no refl ∙ viewed db c.args.q.now c.query_is_spelled.ensures
 
-pub returns-clause-told : goal.returns-clause-told
-returns-clause-told g c = λ db h.
+pub returns-clause-known : goal.returns-clause-known
+returns-clause-known g c = λ db h.
     let yes : attrs_stand (map target_attr (targets_of c.args.q.now)) ≡ true = cc (c.in_ok-target_attrs_stand.ensures, c.if-not-branch.false) in
     subst (λ (b : Bool). IfOk c.view_query_is_fit.result (λ fit. fit ≡ b)) (goes_on _ _ _ yes refl ∙ viewed db c.args.q.now c.query_is_spelled.ensures)
-    (c.view_query_is_fit.ensures.told db h)
+    (c.view_query_is_fit.ensures.known db h)

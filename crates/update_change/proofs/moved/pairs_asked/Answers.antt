@@ -1,5 +1,5 @@
 use Rattle.std.proofs.Common.{refl, arith}
-use Rattle.am_traits.specs.Scans.{first_place}
+use Rattle.base_trait.specs.Scans.{first_place}
 use Rattle.calculus.specs.Stored.{rows_at}
 use Rattle.update_change.proofs.Failing.{may_fail}
 use Rattle.update_change.proofs.Few.{ascends_scanned, go_all, come_all}

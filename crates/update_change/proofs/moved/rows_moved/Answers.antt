@@ -1,5 +1,5 @@
 use Rattle.std.proofs.Common.{◌∙◌, sym, arith}
-use Rattle.am_traits.specs.Scans.{first_place}
+use Rattle.base_trait.specs.Scans.{first_place}
 use Rattle.calculus.specs.Stored.{rows_at}
 use Rattle.update_change.proofs.Few.{ascends_scanned, too_many_after, few_after}
 use Rattle.update_change.proofs.moved.rows_moved.Goals as goal
@@ -13,7 +13,7 @@ returns-then-are_too_many-clause-cause g c = record {
     λ db e new.
         too_many_after (rows_at db c.args.u.now.rel) c.in_ok-change.change.remove c.in_ok-change.change.add c.args.pairs.items c.in_ok-left.left
         (ascends_scanned (rows_at db c.args.u.now.rel) (g.B.Base.left c.args.base.now c.args.u.now.rel first_place) (g.B.Base.scanned c.args.base.now db c.args.u.now.rel e))
-        (c.in_ok-change.ensures.removed db e) (c.in_ok-change.ensures.added db e) (c.in_ok-left.ensures.told db (c.in_ok-change.ensures.kept ∙ e))
+        (c.in_ok-change.ensures.removed db e) (c.in_ok-change.ensures.added db e) (c.in_ok-left.ensures.known db (c.in_ok-change.ensures.kept ∙ e))
         (sym c.are_too_many.ensures ∙ c.if-are_too_many.true),
   );
 }
@@ -22,5 +22,5 @@ pub returns-clause-few : goal.returns-clause-few
 returns-clause-few g c = λ db e.
     few_after (rows_at db c.args.u.now.rel) c.in_ok-change.change.remove c.in_ok-change.change.add c.args.pairs.items c.in_ok-left.left
     (ascends_scanned (rows_at db c.args.u.now.rel) (g.B.Base.left c.args.base.now c.args.u.now.rel first_place) (g.B.Base.scanned c.args.base.now db c.args.u.now.rel e))
-    (c.in_ok-change.ensures.removed db e) (c.in_ok-change.ensures.added db e) (c.in_ok-left.ensures.told db (c.in_ok-change.ensures.kept ∙ e))
+    (c.in_ok-change.ensures.removed db e) (c.in_ok-change.ensures.added db e) (c.in_ok-left.ensures.known db (c.in_ok-change.ensures.kept ∙ e))
     (sym c.are_too_many.ensures ∙ c.if-are_too_many.false)

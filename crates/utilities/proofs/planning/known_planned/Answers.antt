@@ -1,4 +1,4 @@
-use Rattle.utilities.proofs.Deciding.{decided, no_rule, told_cause}
+use Rattle.utilities.proofs.Deciding.{decided, no_rule, known_cause}
 use Rattle.utilities.proofs.planning.known_planned.Goals as goal
 
 pub returns-in_default-clause-change : goal.returns-in_default-clause-change
@@ -10,4 +10,4 @@ returns-in_default-clause-by_schema g c = λ s e.
 
 pub returns-in_default-clause-cause : goal.returns-in_default-clause-cause
 returns-in_default-clause-cause g c =
-    told_cause c.args.user.now c.args.u.now (g.B.Base.schema c.args.base.now) (g.B.Base.database c.args.base.now) _ _ c.schema_planned.result (g.B.Base.own c.args.base.now) c.schema_planned.ensures.cause
+    known_cause c.args.user.now c.args.u.now (g.B.Base.schema c.args.base.now) (g.B.Base.database c.args.base.now) _ _ c.schema_planned.result (g.B.Base.own c.args.base.now) c.schema_planned.ensures.cause

@@ -6,18 +6,18 @@ use Rattle.utility_trees.proofs.Resolving.{copy_binary, copy_there, copy_tree, c
 use Rattle.utility_trees.proofs.Saying.{not_lost, says}
 use Rattle.utility_trees.proofs.copied.copied.Goals as goal
 
-pub returns-then-branch-clause-told : goal.returns-then-branch-clause-told
-returns-then-branch-clause-told g c = λ db ranges h names.
+pub returns-then-branch-clause-known : goal.returns-then-branch-clause-known
+returns-then-branch-clause-known g c = λ db ranges h names.
     copy_twice db c.args.user.now ranges c.args.rel.now c.args.columns.now c.args.from c.args.file.now names (sym c.in_ok-columns_repeat.ensures ∙ c.if-branch.true)
 
-pub returns-in-Err-clause-told : goal.returns-in-Err-clause-told
-returns-in-Err-clause-told g c = λ db ranges h names.
+pub returns-in-Err-clause-known : goal.returns-in-Err-clause-known
+returns-in-Err-clause-known g c = λ db ranges h names.
     not_lost db c.args.user.now c.args.rel.now (scope_of db c.args.user.now ranges) (statement.Copy c.args.rel.now c.args.columns.now c.args.from c.args.file.now)
-    (copy_there db c.args.user.now ranges c.args.rel.now c.args.columns.now c.args.from c.args.file.now names) c.in-Err.fault (c.in-Err.ensures.told db h)
+    (copy_there db c.args.user.now ranges c.args.rel.now c.args.columns.now c.args.from c.args.file.now names) c.in-Err.fault (c.in-Err.ensures.known db h)
 
-pub returns-in-Ok-clause-told : goal.returns-in-Ok-clause-told
-returns-in-Ok-clause-told g c = λ db ranges h names.
-    let info = c.in-Ok.ensures.told db h in
+pub returns-in-Ok-clause-known : goal.returns-in-Ok-clause-known
+returns-in-Ok-clause-known g c = λ db ranges h names.
+    let info = c.in-Ok.ensures.known db h in
     let once : repeats (map (λ c. c.0) c.args.columns.now) ≡ false = sym c.in_ok-columns_repeat.ensures ∙ c.if-branch.false in
     says c.copy_fitting-tree.result _ _ _ _
     (λ tree k. copy_tree db c.args.user.now ranges c.args.rel.now c.args.columns.now c.args.from c.args.file.now c.in-Ok.info tree names once info.0 k.0 (k.1 info.1))

@@ -8,9 +8,9 @@ use Rattle.utility_trees.proofs.finding.entry_keys.Goals as goal
 
 pub loop-name-preserved : goal.loop-name-preserved
 loop-name-preserved g c = record {
-  told = λ db ranges h d.
+  known = λ db ranges h d.
       c.in_ok-push_if.ensures
-      ∙ (λ i. c.loop-name.invariant.told db ranges h d i ++ option_to_list (c.in_ok-key.ensures.told db ranges (c.loop-name.invariant.stays _ h) d i))
+      ∙ (λ i. c.loop-name.invariant.known db ranges h d i ++ option_to_list (c.in_ok-key.ensures.known db ranges (c.loop-name.invariant.stays _ h) d i))
       ∙ sym (filter_more (entry_named (scope_of db c.args.user.now ranges)) c.args.names.now c.loop-name.name-index c.name-item.result c.loop-name-test.true c.name-item.is);
   kept = c.in_ok-key.ensures.kept ∙ c.loop-name.invariant.kept;
   stays = λ s h. c.in_ok-key.ensures.stays s (c.loop-name.invariant.stays s h);
@@ -18,7 +18,7 @@ loop-name-preserved g c = record {
   faults = c.in_ok-key.ensures.cause.caused ∙ c.loop-name.invariant.faults;
 }
 
-pub returns-clause-told : goal.returns-clause-told
-returns-clause-told g c = λ db ranges h d.
-    c.loop-name.invariant.told db ranges h d
+pub returns-clause-known : goal.returns-clause-known
+returns-clause-known g c = λ db ranges h d.
+    c.loop-name.invariant.known db ranges h d
     ∙ ap (filter_map (entry_named (scope_of db c.args.user.now ranges))) (take_all c.loop-name.name-index c.args.names.now c.loop-name-test.false)

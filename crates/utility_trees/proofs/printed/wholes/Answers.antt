@@ -6,9 +6,9 @@ use Rattle.utility_trees.proofs.printed.wholes.Goals as goal
 
 pub loop-name-preserved : goal.loop-name-preserved
 loop-name-preserved g c = record {
-  told = λ db h.
+  known = λ db h.
       c.in_ok-push.ensures.behind
-      ∙ (λ i. c.loop-name.invariant.told db h i ++ (c.in_ok-one.ensures.told db (c.loop-name.invariant.stays _ h) ∙ ap (λ name. whole (found db c.args.user.now name)) c.name-item.is) i ∷ [])
+      ∙ (λ i. c.loop-name.invariant.known db h i ++ (c.in_ok-one.ensures.known db (c.loop-name.invariant.stays _ h) ∙ ap (λ name. whole (found db c.args.user.now name)) c.name-item.is) i ∷ [])
       ∙ sym (map_more (λ name. whole (found db c.args.user.now name)) c.args.names.now c.loop-name.name-index c.name-item.result c.loop-name-test.true);
   kept = c.in_ok-one.ensures.kept ∙ c.loop-name.invariant.kept;
   stays = λ s h. c.in_ok-one.ensures.stays s (c.loop-name.invariant.stays s h);
@@ -16,6 +16,6 @@ loop-name-preserved g c = record {
   faults = c.in_ok-one.ensures.cause.caused ∙ c.loop-name.invariant.faults;
 }
 
-pub returns-clause-told : goal.returns-clause-told
-returns-clause-told g c = λ db h.
-    c.loop-name.invariant.told db h ∙ ap (map (λ name. whole (found db c.args.user.now name))) (take_all c.loop-name.name-index c.args.names.now c.loop-name-test.false)
+pub returns-clause-known : goal.returns-clause-known
+returns-clause-known g c = λ db h.
+    c.loop-name.invariant.known db h ∙ ap (map (λ name. whole (found db c.args.user.now name))) (take_all c.loop-name.name-index c.args.names.now c.loop-name-test.false)

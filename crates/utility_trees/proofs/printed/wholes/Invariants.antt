@@ -6,7 +6,7 @@ use Rattle.utility_trees.proofs.printed.wholes.Given as goal
 
 abbrev pub invariant-loop-name : goal.invariant-loop-name
 invariant-loop-name g l = record {
-  told : (db : Db) → g.B.Base.schema l.initial.base ≡ Some db → l.asked.items ≡ map (λ name. whole (found db l.user name)) (take l.name-index l.names);
+  known : (db : Db) → g.B.Base.schema l.initial.base ≡ Some db → l.asked.items ≡ map (λ name. whole (found db l.user name)) (take l.name-index l.names);
   kept : g.B.Base.database l.base ≡ g.B.Base.database l.initial.base;
   stays : (s : Db) → g.B.Base.schema l.initial.base ≡ Some s → g.B.Base.schema l.base ≡ Some s;
   asked : (b : _) → g.B.Base.asked b l.initial.base → g.B.Base.asked b l.base;

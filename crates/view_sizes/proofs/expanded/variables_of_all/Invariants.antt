@@ -8,7 +8,7 @@ use Rattle.view_sizes.proofs.expanded.variables_of_all.Given as goal
 
 abbrev pub invariant-loop-aggregate : goal.invariant-loop-aggregate
 invariant-loop-aggregate g l = record {
-  told : (db : Db) → g.B.Base.schema l.initial.base ≡ Some db → AreMeasured db l.initial.found.entries → list_all (λ g. source_lists_few g.now.source) l.aggregates ≡ true
+  known : (db : Db) → g.B.Base.schema l.initial.base ≡ Some db → AreMeasured db l.initial.found.entries → list_all (λ g. source_lists_few g.now.source) l.aggregates ≡ true
       → l.count ≡ min (sum_by (λ g. source_variables (measure_within 16 db) g.now.source) (take l.aggregate-index l.aggregates)) (2 ^ 64 - 1);
   found : (db : Db) → g.B.Base.schema l.initial.base ≡ Some db → AreMeasured db l.initial.found.entries → AreMeasured db l.found.entries;
   kept : g.B.Base.database l.base ≡ g.B.Base.database l.initial.base;

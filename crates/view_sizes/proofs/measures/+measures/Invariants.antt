@@ -16,7 +16,7 @@ decreases-measure_through g l = 3 * l.levels + 2
 
 abbrev pub invariant-measure_through-loop-key : goal.invariant-measure_through-loop-key
 invariant-measure_through-loop-key g l = record {
-  told : (db : Db) → g.B.Base.schema l.initial.base ≡ Some db → AreMeasured db l.initial.found.entries → map held l.vars.items ≡ map (λ key. stopped_measure (measure_within l.levels db key)) (take l.key-index l.key-items);
+  known : (db : Db) → g.B.Base.schema l.initial.base ≡ Some db → AreMeasured db l.initial.found.entries → map held l.vars.items ≡ map (λ key. stopped_measure (measure_within l.levels db key)) (take l.key-index l.key-items);
   found : (db : Db) → g.B.Base.schema l.initial.base ≡ Some db → AreMeasured db l.initial.found.entries → AreMeasured db l.found.entries;
   kept : g.B.Base.database l.base ≡ g.B.Base.database l.initial.base;
   stays : (s : Db) → g.B.Base.schema l.initial.base ≡ Some s → g.B.Base.schema l.base ≡ Some s;

@@ -16,7 +16,7 @@ decreases-have_levels_found g l = 3 * l.levels + 2
 
 abbrev pub invariant-have_levels_found-loop-key : goal.invariant-have_levels_found-loop-key
 invariant-have_levels_found-loop-key g l = record {
-  told : (db : Db) → g.B.Base.schema l.initial.base ≡ Some db → HaveLevels db l.initial.found.keys → list_all (λ key. is_some (level_within l.levels db key)) (take l.key-index l.vars) ≡ true;
+  known : (db : Db) → g.B.Base.schema l.initial.base ≡ Some db → HaveLevels db l.initial.found.keys → list_all (λ key. is_some (level_within l.levels db key)) (take l.key-index l.vars) ≡ true;
   found : (db : Db) → g.B.Base.schema l.initial.base ≡ Some db → HaveLevels db l.initial.found.keys → HaveLevels db l.found.keys;
   kept : g.B.Base.database l.base ≡ g.B.Base.database l.initial.base;
   stays : (s : Db) → g.B.Base.schema l.initial.base ≡ Some s → g.B.Base.schema l.base ≡ Some s;

@@ -6,10 +6,10 @@ use Rattle.view_sizes.proofs.variables.variables_under_found.Goals as goal
 
 pub loop-key-preserved : goal.loop-key-preserved
 loop-key-preserved g c = record {
-  told = λ db h all.
+  known = λ db h all.
       sum_more (λ key. (measure_within 16 db key).variables) c.args.vars.now c.loop-key.key-index c.key-item.result c.loop-key.count c.in_ok-more.more
-      c.saturating_add-count.result c.loop-key-test.true c.key-item.is (c.loop-key.invariant.told db h all)
-      (c.in_ok-more.ensures.told db (c.loop-key.invariant.stays _ h) (c.loop-key.invariant.found db h all)) c.saturating_add-count.ensures;
+      c.saturating_add-count.result c.loop-key-test.true c.key-item.is (c.loop-key.invariant.known db h all)
+      (c.in_ok-more.ensures.known db (c.loop-key.invariant.stays _ h) (c.loop-key.invariant.found db h all)) c.saturating_add-count.ensures;
   found = λ db h all. c.in_ok-more.ensures.found db (c.loop-key.invariant.stays _ h) (c.loop-key.invariant.found db h all);
   kept = c.in_ok-more.ensures.kept ∙ c.loop-key.invariant.kept;
   stays = λ s h. c.in_ok-more.ensures.stays s (c.loop-key.invariant.stays s h);
@@ -17,6 +17,6 @@ loop-key-preserved g c = record {
   faults = c.in_ok-more.ensures.cause.caused ∙ c.loop-key.invariant.faults;
 }
 
-pub returns-clause-told : goal.returns-clause-told
-returns-clause-told g c = λ db h all.
-    c.loop-key.invariant.told db h all ∙ ap (λ keys. min (sum_by (λ key. (measure_within 16 db key).variables) keys) (2 ^ 64 - 1)) (take_all c.loop-key.key-index c.args.vars.now c.loop-key-test.false)
+pub returns-clause-known : goal.returns-clause-known
+returns-clause-known g c = λ db h all.
+    c.loop-key.invariant.known db h all ∙ ap (λ keys. min (sum_by (λ key. (measure_within 16 db key).variables) keys) (2 ^ 64 - 1)) (take_all c.loop-key.key-index c.args.vars.now c.loop-key-test.false)

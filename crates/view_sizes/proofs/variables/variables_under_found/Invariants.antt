@@ -6,7 +6,7 @@ use Rattle.view_sizes.proofs.variables.variables_under_found.Given as goal
 
 abbrev pub invariant-loop-key : goal.invariant-loop-key
 invariant-loop-key g l = record {
-  told : (db : Db) → g.B.Base.schema l.initial.base ≡ Some db → AreMeasured db l.initial.found.entries
+  known : (db : Db) → g.B.Base.schema l.initial.base ≡ Some db → AreMeasured db l.initial.found.entries
       → l.count ≡ min (sum_by (λ key. (measure_within 16 db key).variables) (take l.key-index l.vars)) (2 ^ 64 - 1);
   found : (db : Db) → g.B.Base.schema l.initial.base ≡ Some db → AreMeasured db l.initial.found.entries → AreMeasured db l.found.entries;
   kept : g.B.Base.database l.base ≡ g.B.Base.database l.initial.base;

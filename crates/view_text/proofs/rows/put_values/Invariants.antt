@@ -1,5 +1,5 @@
 use Rattle.std.proofs.Common.{◌≡◌, ◌++◌, map, take}
-use Rattle.view_text.specs.TextOf.{has_value}
+use Rattle.view_text.specs.ExpansionOf.{has_value}
 use Rattle.view_text.proofs.rows.put_values.Given as goal
 
 abbrev pub invariant-loop-term : goal.invariant-loop-term

@@ -14,10 +14,10 @@ use Rattle.calculus.specs.Schema.{schema_of}
 use Rattle.catalog.proofs.catalog.Catalog.fill.Goals as goal
 
 pub returns-then-has-clause-rows : goal.returns-then-has-clause-rows
-returns-then-has-clause-rows g c m db told is k = rows_are c.args.self.now m db c.args.key.now k (sym c.has.ensures ∙ c.if-has.true)
+returns-then-has-clause-rows g c m db known is k = rows_are c.args.self.now m db c.args.key.now k (sym c.has.ensures ∙ c.if-has.true)
 
 pub returns-then-not-branch-clause-rows : goal.returns-then-not-branch-clause-rows
-returns-then-not-branch-clause-rows g c m db told is k =
+returns-then-not-branch-clause-rows g c m db known is k =
     ap (λ d. rows_at d c.args.key.now) c.in_ok-is_stored.ensures.same ∙ other_rows_are c.args.self.now m db c.args.key.now k (sym c.in_ok-is_stored.ensures.there ∙ c.if-not-branch.true)
 
 pub read-requires-clause-file : goal.read-requires-clause-file
@@ -25,8 +25,8 @@ read-requires-clause-file g c =
     subst (λ d. IsFileOf d (files_of c.args.self.now.files) c.args.key.now c.in-Some.file) (sym c.in_ok-file.ensures.same) (c.in_ok-file.ensures.there c.in-Some.file c.in-Some.is)
 
 pub returns-in-Some-clause-knows : goal.returns-in-Some-clause-knows
-returns-in-Some-clause-knows g c m db told is k =
-    c.read.ensures.knows m db told is
+returns-in-Some-clause-knows g c m db known is k =
+    c.read.ensures.knows m db known is
     (knows_same c.args.self.now (record c.args.self.now { plain = c.relation_file.new.plain }) m db
     (record { plain = c.in_ok-file.ensures.same ∙ c.in_ok-is_stored.ensures.same; loaded = λ key. refl; files = refl; ends_stay = refl }) k)
 
@@ -34,15 +34,15 @@ pub returns-in-None-clause-cause : goal.returns-in-None-clause-cause
 returns-in-None-clause-cause g c = record {
   later = omega arith;
   caused = (
-    λ m told. no_file_none c.args.self.now m c.args.key.now (record { file = 5; page = 0 })
+    λ m known. no_file_none c.args.self.now m c.args.key.now (record { file = 5; page = 0 })
         (sym c.in_ok-is_stored.ensures.there ∙ c.if-not-branch.false) (c.in_ok-file.ensures.none c.in-None.is),
     refl,
   );
 }
 
 pub returns-in-Some-clause-lies : goal.returns-in-Some-clause-lies
-returns-in-Some-clause-lies g c m told lies =
-    c.read.ensures.lies m told
+returns-in-Some-clause-lies g c m known lies =
+    c.read.ensures.lies m known
     (lies_same c.args.self.now (record c.args.self.now { plain = c.relation_file.new.plain }) m
     (record { plain = c.in_ok-file.ensures.same ∙ c.in_ok-is_stored.ensures.same; loaded = λ key. refl; files = refl; ends_stay = refl }) lies)
 
@@ -68,37 +68,37 @@ pub returns-in-Some-clause-known : goal.returns-in-Some-clause-known
 returns-in-Some-clause-known g c = known_read c.read.result c.read.new.self c.args.key.now c.read.ensures.loaded
 
 pub returns-in_err-is_stored-clause-knows : goal.returns-in_err-is_stored-clause-knows
-returns-in_err-is_stored-clause-knows g c m db told is k = knows_still c.args.self.now c.is_stored.new.plain m db c.is_stored.ensures.same k
+returns-in_err-is_stored-clause-knows g c m db known is k = knows_still c.args.self.now c.is_stored.new.plain m db c.is_stored.ensures.same k
 
 pub returns-in_err-is_stored-clause-lies : goal.returns-in_err-is_stored-clause-lies
-returns-in_err-is_stored-clause-lies g c m told lies = lies_still c.args.self.now c.is_stored.new.plain m c.is_stored.ensures.same lies
+returns-in_err-is_stored-clause-lies g c m known lies = lies_still c.args.self.now c.is_stored.new.plain m c.is_stored.ensures.same lies
 
 pub returns-in_err-is_stored-clause-schema : goal.returns-in_err-is_stored-clause-schema
 returns-in_err-is_stored-clause-schema g c = ap schema_of c.is_stored.ensures.same
 
 pub returns-then-not-branch-clause-knows : goal.returns-then-not-branch-clause-knows
-returns-then-not-branch-clause-knows g c m db told is k = knows_still c.args.self.now c.is_stored.new.plain m db c.is_stored.ensures.same k
+returns-then-not-branch-clause-knows g c m db known is k = knows_still c.args.self.now c.is_stored.new.plain m db c.is_stored.ensures.same k
 
 pub returns-then-not-branch-clause-lies : goal.returns-then-not-branch-clause-lies
-returns-then-not-branch-clause-lies g c m told lies = lies_still c.args.self.now c.is_stored.new.plain m c.is_stored.ensures.same lies
+returns-then-not-branch-clause-lies g c m known lies = lies_still c.args.self.now c.is_stored.new.plain m c.is_stored.ensures.same lies
 
 pub returns-then-not-branch-clause-schema : goal.returns-then-not-branch-clause-schema
 returns-then-not-branch-clause-schema g c = ap schema_of c.is_stored.ensures.same
 
 pub returns-in_err-file-clause-knows : goal.returns-in_err-file-clause-knows
-returns-in_err-file-clause-knows g c m db told is k = knows_still c.args.self.now c.relation_file.new.plain m db (c.relation_file.ensures.same ∙ c.is_stored.ensures.same) k
+returns-in_err-file-clause-knows g c m db known is k = knows_still c.args.self.now c.relation_file.new.plain m db (c.relation_file.ensures.same ∙ c.is_stored.ensures.same) k
 
 pub returns-in_err-file-clause-lies : goal.returns-in_err-file-clause-lies
-returns-in_err-file-clause-lies g c m told lies = lies_still c.args.self.now c.relation_file.new.plain m (c.relation_file.ensures.same ∙ c.is_stored.ensures.same) lies
+returns-in_err-file-clause-lies g c m known lies = lies_still c.args.self.now c.relation_file.new.plain m (c.relation_file.ensures.same ∙ c.is_stored.ensures.same) lies
 
 pub returns-in_err-file-clause-schema : goal.returns-in_err-file-clause-schema
 returns-in_err-file-clause-schema g c = ap schema_of (c.relation_file.ensures.same ∙ c.is_stored.ensures.same)
 
 pub returns-in-None-clause-knows : goal.returns-in-None-clause-knows
-returns-in-None-clause-knows g c m db told is k = knows_still c.args.self.now c.relation_file.new.plain m db (c.relation_file.ensures.same ∙ c.is_stored.ensures.same) k
+returns-in-None-clause-knows g c m db known is k = knows_still c.args.self.now c.relation_file.new.plain m db (c.relation_file.ensures.same ∙ c.is_stored.ensures.same) k
 
 pub returns-in-None-clause-lies : goal.returns-in-None-clause-lies
-returns-in-None-clause-lies g c m told lies = lies_still c.args.self.now c.relation_file.new.plain m (c.relation_file.ensures.same ∙ c.is_stored.ensures.same) lies
+returns-in-None-clause-lies g c m known lies = lies_still c.args.self.now c.relation_file.new.plain m (c.relation_file.ensures.same ∙ c.is_stored.ensures.same) lies
 
 pub returns-in-None-clause-schema : goal.returns-in-None-clause-schema
 returns-in-None-clause-schema g c = ap schema_of (c.relation_file.ensures.same ∙ c.is_stored.ensures.same)
@@ -107,14 +107,14 @@ pub returns-in-Some-clause-schema : goal.returns-in-Some-clause-schema
 returns-in-Some-clause-schema g c = c.read.ensures.schema ∙ ap schema_of (c.relation_file.ensures.same ∙ c.is_stored.ensures.same)
 
 pub returns-in-Some-clause-rows : goal.returns-in-Some-clause-rows
-returns-in-Some-clause-rows g c m db told is k =
-    c.read.ensures.rows m db told is (knows_still c.args.self.now c.relation_file.new.plain m db (c.relation_file.ensures.same ∙ c.is_stored.ensures.same) k)
+returns-in-Some-clause-rows g c m db known is k =
+    c.read.ensures.rows m db known is (knows_still c.args.self.now c.relation_file.new.plain m db (c.relation_file.ensures.same ∙ c.is_stored.ensures.same) k)
 
 pub returns-in-Some-clause-cause : goal.returns-in-Some-clause-cause
 returns-in-Some-clause-cause g c =
-    let told = g.S.PageStore.pages c.args.store.now in
+    let known = g.S.PageStore.pages c.args.store.now in
     let start = g.S.PageStore.faults c.args.store.now in
-    cause_on told told (KnowsNone (record c.args.self.now { plain = c.relation_file.new.plain })) (KnowsNone c.args.self.now) start start (g.S.PageStore.faults c.read.new.store) c.read.result refl
+    cause_on known known (KnowsNone (record c.args.self.now { plain = c.relation_file.new.plain })) (KnowsNone c.args.self.now) start start (g.S.PageStore.faults c.read.new.store) c.read.result refl
     (λ a none m is db base k. none m is db base (knows_still c.args.self.now c.relation_file.new.plain m db (c.relation_file.ensures.same ∙ c.is_stored.ensures.same) k)) c.read.ensures.cause
 
 pub returns-in-Some-clause-came : goal.returns-in-Some-clause-came

@@ -9,27 +9,27 @@ pub returns-in_err-chains-clause-cause : goal.returns-in_err-chains-clause-cause
 returns-in_err-chains-clause-cause g c =
     cause_carried (g.S.PageStore.pages c.args.store.now) (g.S.PageStore.pages c.args.store.now) NoCatalogueIn (NoDatabaseAt c.args.dba)
     (g.S.PageStore.faults c.args.store.now) (g.S.PageStore.faults c.args.store.now) (g.S.PageStore.faults c.read_chains.new.store) c.in_err-chains.field-0.0 (omega arith)
-    (λ a at m told. no_catalogue c.args.dba m a (at m told)) c.in_err-chains.ensures.cause c.from_residual.result c.from_residual.ensures.1
+    (λ a at m known. no_catalogue c.args.dba m a (at m known)) c.in_err-chains.ensures.cause c.from_residual.result c.from_residual.ensures.1
 
 pub returns-in-Some-clause-knows : goal.returns-in-Some-clause-knows
-returns-in-Some-clause-knows g c m db told stands named owners =
-    subst (IfKnown m db) c.in-Some.is (c.in_ok-catalog.ensures.known m db (c.in_ok-chains.ensures.found m told) (record { stands = stands; dba_is = named; owners = owners }))
+returns-in-Some-clause-knows g c m db known stands named owners =
+    subst (IfKnown m db) c.in-Some.is (c.in_ok-catalog.ensures.known m db (c.in_ok-chains.ensures.found m known) (record { stands = stands; dba_is = named; owners = owners }))
 
 pub returns-clause-cause : goal.returns-clause-cause
 returns-clause-cause g c = record {
   later = c.in_ok-chains.ensures.cause.later;
   caused = (
-    λ m told. (
+    λ m known. (
       λ db stands named owners.
-          subst (IfKnown m db) c.in-None.is (c.in_ok-catalog.ensures.known m db (c.in_ok-chains.ensures.found m told) (record { stands = stands; dba_is = named; owners = owners })),
-      first_page m _ (c.in_ok-chains.ensures.found m told),
+          subst (IfKnown m db) c.in-None.is (c.in_ok-catalog.ensures.known m db (c.in_ok-chains.ensures.found m known) (record { stands = stands; dba_is = named; owners = owners })),
+      first_page m _ (c.in_ok-chains.ensures.found m known),
     ),
     c.in_ok-chains.ensures.cause.caused,
   );
 }
 
 pub returns-in-Some-clause-lies : goal.returns-in-Some-clause-lies
-returns-in-Some-clause-lies g c m told = c.in_ok-catalog.ensures.lies m (c.in_ok-chains.ensures.found m told) c.in-Some.catalog c.in-Some.is
+returns-in-Some-clause-lies g c m known = c.in_ok-catalog.ensures.lies m (c.in_ok-chains.ensures.found m known) c.in-Some.catalog c.in-Some.is
 
 pub returns-in-Some-clause-dba : goal.returns-in-Some-clause-dba
 returns-in-Some-clause-dba g c = c.in_ok-catalog.ensures.dba c.in-Some.catalog c.in-Some.is

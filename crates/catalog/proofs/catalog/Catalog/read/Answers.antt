@@ -12,17 +12,17 @@ pub returns-in_err-rows-clause-cause : goal.returns-in_err-rows-clause-cause
 returns-in_err-rows-clause-cause g c =
     cause_carried (g.S.PageStore.pages c.args.store.now) (g.S.PageStore.pages c.args.store.now) (HeapFault c.args.file) (KnowsNone c.args.self.now)
     (g.S.PageStore.faults c.args.store.now) (g.S.PageStore.faults c.args.store.now) (g.S.PageStore.faults c.relation_rows.new.store) c.in_err-rows.field-0.0 (omega arith)
-    (λ a at m told. at_fault_none c.args.self.now m c.args.key.now c.args.file a c.requires.stored c.requires.file (at m told))
+    (λ a at m known. at_fault_none c.args.self.now m c.args.key.now c.args.file a c.requires.stored c.requires.file (at m known))
     c.in_err-rows.ensures.cause c.from_residual.result c.from_residual.ensures.1
 
 pub returns-then-branch-clause-knows : goal.returns-then-branch-clause-knows
-returns-then-branch-clause-knows g c m db told is k =
+returns-then-branch-clause-knows g c m db known is k =
     knows_with c.args.self.now c.take.new.self m db c.args.key.now c.in_ok-rows.rows (c.in_ok-take.ensures.taken c.if-branch.true)
-    (may_come c.args.self.now m db c.args.key.now c.args.file c.in_ok-rows.rows is k c.requires.unread c.requires.stored c.requires.file (λ placed are. c.in_ok-rows.ensures.told m placed told are)) k
+    (may_come c.args.self.now m db c.args.key.now c.args.file c.in_ok-rows.rows is k c.requires.unread c.requires.stored c.requires.file (λ placed are. c.in_ok-rows.ensures.known m placed known are)) k
 
 pub returns-then-branch-clause-rows : goal.returns-then-branch-clause-rows
-returns-then-branch-clause-rows g c m db told is k =
-    rows_are c.take.new.self m db c.args.key.now (returns-then-branch-clause-knows g c m db told is k)
+returns-then-branch-clause-rows g c m db known is k =
+    rows_are c.take.new.self m db c.args.key.now (returns-then-branch-clause-knows g c m db known is k)
     (taken_is_in c.args.self.now c.take.new.self c.args.key.now c.in_ok-rows.rows (c.in_ok-take.ensures.taken c.if-branch.true))
 
 pub returns-then-branch-clause-schema : goal.returns-then-branch-clause-schema
@@ -33,17 +33,17 @@ pub returns-else-branch-clause-cause : goal.returns-else-branch-clause-cause
 returns-else-branch-clause-cause g c = record {
   later = c.in_ok-rows.ensures.cause.later;
   caused = (
-    λ m told db is k.
+    λ m known db is k.
         (c.in_ok-take.ensures.refused c.if-branch.false
-        (may_come c.args.self.now m db c.args.key.now c.args.file c.in_ok-rows.rows is k c.requires.unread c.requires.stored c.requires.file (λ placed are. c.in_ok-rows.ensures.told m placed told are)).lawful),
+        (may_come c.args.self.now m db c.args.key.now c.args.file c.in_ok-rows.rows is k c.requires.unread c.requires.stored c.requires.file (λ placed are. c.in_ok-rows.ensures.known m placed known are)).lawful),
     c.in_ok-rows.ensures.cause.caused,
   );
 }
 
 pub returns-then-branch-clause-lies : goal.returns-then-branch-clause-lies
-returns-then-branch-clause-lies g c m told lies =
+returns-then-branch-clause-lies g c m known lies =
     lies_with c.args.self.now c.take.new.self m c.args.key.now c.args.file c.in_ok-rows.rows lies c.requires.unread c.requires.stored c.requires.file
-    (c.in_ok-rows.ensures.exact m told) (c.in_ok-take.ensures.taken c.if-branch.true)
+    (c.in_ok-rows.ensures.exact m known) (c.in_ok-take.ensures.taken c.if-branch.true)
 
 pub returns-then-branch-clause-files : goal.returns-then-branch-clause-files
 returns-then-branch-clause-files g c = (c.in_ok-take.ensures.taken c.if-branch.true).files
@@ -52,10 +52,10 @@ pub returns-then-branch-clause-loaded : goal.returns-then-branch-clause-loaded
 returns-then-branch-clause-loaded g c = taken_is_in c.args.self.now c.take.new.self c.args.key.now c.in_ok-rows.rows (c.in_ok-take.ensures.taken c.if-branch.true)
 
 pub returns-in_err-take-clause-knows : goal.returns-in_err-take-clause-knows
-returns-in_err-take-clause-knows g c m db told is k = knows_same c.args.self.now c.take.new.self m db c.in_err-take.ensures.err k
+returns-in_err-take-clause-knows g c m db known is k = knows_same c.args.self.now c.take.new.self m db c.in_err-take.ensures.err k
 
 pub returns-in_err-take-clause-lies : goal.returns-in_err-take-clause-lies
-returns-in_err-take-clause-lies g c m told lies = lies_same c.args.self.now c.take.new.self m c.in_err-take.ensures.err lies
+returns-in_err-take-clause-lies g c m known lies = lies_same c.args.self.now c.take.new.self m c.in_err-take.ensures.err lies
 
 pub returns-in_err-take-clause-schema : goal.returns-in_err-take-clause-schema
 returns-in_err-take-clause-schema g c = ap schema_of c.in_err-take.ensures.err.plain
@@ -64,10 +64,10 @@ pub returns-in_err-take-clause-files : goal.returns-in_err-take-clause-files
 returns-in_err-take-clause-files g c = c.in_err-take.ensures.err.files
 
 pub returns-else-branch-clause-knows : goal.returns-else-branch-clause-knows
-returns-else-branch-clause-knows g c m db told is k = knows_same c.args.self.now c.take.new.self m db (c.in_ok-take.ensures.kept c.if-branch.false) k
+returns-else-branch-clause-knows g c m db known is k = knows_same c.args.self.now c.take.new.self m db (c.in_ok-take.ensures.kept c.if-branch.false) k
 
 pub returns-else-branch-clause-lies : goal.returns-else-branch-clause-lies
-returns-else-branch-clause-lies g c m told lies = lies_same c.args.self.now c.take.new.self m (c.in_ok-take.ensures.kept c.if-branch.false) lies
+returns-else-branch-clause-lies g c m known lies = lies_same c.args.self.now c.take.new.self m (c.in_ok-take.ensures.kept c.if-branch.false) lies
 
 pub returns-else-branch-clause-schema : goal.returns-else-branch-clause-schema
 returns-else-branch-clause-schema g c = ap schema_of (c.in_ok-take.ensures.kept c.if-branch.false).plain

@@ -1,13 +1,13 @@
-use Rattle.db_disk.proofs.AsBase.{fixed, ready, stays, told_after, told_before}
+use Rattle.db_disk.proofs.AsBase.{fixed, ready, stays, known_after, known_before}
 use Rattle.db_disk.proofs.Leaving.{asked_on}
-use Rattle.db_disk.proofs.ReadBy.{catalogues_known, reads_catalogues, still_known}
+use Rattle.db_disk.proofs.ReadBy.{catalogues_cached, reads_catalogues, still_cached}
 use Rattle.db_disk.proofs.answering.DbDiskBase.dba.Goals as goal
 
-pub returns-clause-told : goal.returns-clause-told
-returns-clause-told g c = told_before c.args.self.now c.dba.new.self c.dba.ensures.kept c.dba.ensures.keeps _ c.dba.ensures.told c.dba.ensures.by_schema
+pub returns-clause-known : goal.returns-clause-known
+returns-clause-known g c = known_before c.args.self.now c.dba.new.self c.dba.ensures.kept c.dba.ensures.keeps _ c.dba.ensures.known c.dba.ensures.by_schema
 
 pub returns-clause-by_schema : goal.returns-clause-by_schema
-returns-clause-by_schema g c = told_after c.args.self.now c.dba.new.self c.dba.ensures.kept c.dba.ensures.keeps _ c.dba.ensures.told c.dba.ensures.by_schema
+returns-clause-by_schema g c = known_after c.args.self.now c.dba.new.self c.dba.ensures.kept c.dba.ensures.keeps _ c.dba.ensures.known c.dba.ensures.by_schema
 
 pub returns-clause-stays : goal.returns-clause-stays
 returns-clause-stays g c = stays c.args.self.now c.dba.new.self c.dba.ensures.kept c.dba.ensures.keeps
@@ -21,11 +21,11 @@ returns-clause-ready g c = ready c.dba.new.self c.dba.result c.dba.ensures.fixed
 pub returns-clause-asked : goal.returns-clause-asked
 returns-clause-asked g c = λ b before. asked_on g.met.D.Disk.counts_now g.met.D.Disk.only_now b c.args.self.now c.dba.new.self c.dba.ensures.kept c.dba.ensures.crash c.dba.ensures.stays before
 
-pub returns-clause-known : goal.returns-clause-known
-returns-clause-known g c = catalogues_known c.dba.new.self c.dba.result c.dba.ensures.fixed
+pub returns-clause-cached : goal.returns-clause-cached
+returns-clause-cached g c = catalogues_cached c.dba.new.self c.dba.result c.dba.ensures.fixed
 
-pub returns-clause-still_known : goal.returns-clause-still_known
-returns-clause-still_known g c = still_known c.args.self.now c.dba.new.self c.dba.ensures.keeps c.dba.ensures.files_stay
+pub returns-clause-still_cached : goal.returns-clause-still_cached
+returns-clause-still_cached g c = still_cached c.args.self.now c.dba.new.self c.dba.ensures.keeps c.dba.ensures.files_stay
 
 pub returns-clause-reads : goal.returns-clause-reads
 returns-clause-reads g c = reads_catalogues c.args.self.now c.dba.new.self c.dba.ensures.still c.dba.ensures.reads

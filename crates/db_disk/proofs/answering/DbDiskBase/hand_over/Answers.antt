@@ -12,7 +12,7 @@ pub returns-clause-forgotten : goal.returns-clause-forgotten
 returns-clause-forgotten g c = λ s is. forgotten (db_of c.hand_over.new.self) (schema_in c.hand_over.new.self) s c.hand_over.ensures.schema is
 
 pub returns-clause-still : goal.returns-clause-still
-returns-clause-still g c = (ap (clock_by g.D.Disk.tells g.D.Disk.clock) c.hand_over.ensures.disk, ap g.D.Disk.reads c.hand_over.ensures.disk)
+returns-clause-still g c = (ap (clock_by g.D.Disk.is_known g.D.Disk.clock) c.hand_over.ensures.disk, ap g.D.Disk.reads c.hand_over.ensures.disk)
 
 pub returns-clause-asked : goal.returns-clause-asked
 returns-clause-asked g c = λ b before. asked_as b c.args.self.now c.hand_over.new.self c.hand_over.ensures.kept c.hand_over.ensures.disk c.hand_over.ensures.stays before

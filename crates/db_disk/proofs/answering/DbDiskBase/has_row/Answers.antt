@@ -1,6 +1,6 @@
 use Rattle.db_disk.proofs.AsBase.{fixed, ready, stays}
 use Rattle.db_disk.proofs.Leaving.{asked_on}
-use Rattle.db_disk.proofs.ReadBy.{catalogues_known, reads_rows, still_known}
+use Rattle.db_disk.proofs.ReadBy.{catalogues_cached, reads_rows, still_cached}
 use Rattle.db_disk.proofs.answering.DbDiskBase.has_row.Goals as goal
 
 pub returns-clause-stays : goal.returns-clause-stays
@@ -15,11 +15,11 @@ returns-clause-ready g c = ready c.has_row.new.self c.has_row.result c.has_row.e
 pub returns-clause-asked : goal.returns-clause-asked
 returns-clause-asked g c = λ b before. asked_on g.met.D.Disk.counts_now g.met.D.Disk.only_now b c.args.self.now c.has_row.new.self c.has_row.ensures.kept c.has_row.ensures.crash c.has_row.ensures.stays before
 
-pub returns-clause-known : goal.returns-clause-known
-returns-clause-known g c = catalogues_known c.has_row.new.self c.has_row.result c.has_row.ensures.fixed
+pub returns-clause-cached : goal.returns-clause-cached
+returns-clause-cached g c = catalogues_cached c.has_row.new.self c.has_row.result c.has_row.ensures.fixed
 
-pub returns-clause-still_known : goal.returns-clause-still_known
-returns-clause-still_known g c = still_known c.args.self.now c.has_row.new.self c.has_row.ensures.keeps c.has_row.ensures.files_stay
+pub returns-clause-still_cached : goal.returns-clause-still_cached
+returns-clause-still_cached g c = still_cached c.args.self.now c.has_row.new.self c.has_row.ensures.keeps c.has_row.ensures.files_stay
 
 pub returns-clause-reads : goal.returns-clause-reads
 returns-clause-reads g c = reads_rows c.args.self.now c.has_row.new.self c.args.key.now c.has_row.ensures.reads c.has_row.ensures.opening_reads

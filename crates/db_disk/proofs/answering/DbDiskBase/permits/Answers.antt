@@ -1,13 +1,13 @@
-use Rattle.db_disk.proofs.AsBase.{fixed, ready, stays, told_after, told_before}
+use Rattle.db_disk.proofs.AsBase.{fixed, ready, stays, known_after, known_before}
 use Rattle.db_disk.proofs.Leaving.{asked_on}
-use Rattle.db_disk.proofs.ReadBy.{catalogues_known, reads_catalogues, still_known}
+use Rattle.db_disk.proofs.ReadBy.{catalogues_cached, reads_catalogues, still_cached}
 use Rattle.db_disk.proofs.answering.DbDiskBase.permits.Goals as goal
 
-pub returns-clause-told : goal.returns-clause-told
-returns-clause-told g c = told_before c.args.self.now c.permits.new.self c.permits.ensures.kept c.permits.ensures.keeps _ c.permits.ensures.told c.permits.ensures.by_schema
+pub returns-clause-known : goal.returns-clause-known
+returns-clause-known g c = known_before c.args.self.now c.permits.new.self c.permits.ensures.kept c.permits.ensures.keeps _ c.permits.ensures.known c.permits.ensures.by_schema
 
 pub returns-clause-by_schema : goal.returns-clause-by_schema
-returns-clause-by_schema g c = told_after c.args.self.now c.permits.new.self c.permits.ensures.kept c.permits.ensures.keeps _ c.permits.ensures.told c.permits.ensures.by_schema
+returns-clause-by_schema g c = known_after c.args.self.now c.permits.new.self c.permits.ensures.kept c.permits.ensures.keeps _ c.permits.ensures.known c.permits.ensures.by_schema
 
 pub returns-clause-stays : goal.returns-clause-stays
 returns-clause-stays g c = stays c.args.self.now c.permits.new.self c.permits.ensures.kept c.permits.ensures.keeps
@@ -21,11 +21,11 @@ returns-clause-ready g c = ready c.permits.new.self c.permits.result c.permits.e
 pub returns-clause-asked : goal.returns-clause-asked
 returns-clause-asked g c = λ b before. asked_on g.met.D.Disk.counts_now g.met.D.Disk.only_now b c.args.self.now c.permits.new.self c.permits.ensures.kept c.permits.ensures.crash c.permits.ensures.stays before
 
-pub returns-clause-known : goal.returns-clause-known
-returns-clause-known g c = catalogues_known c.permits.new.self c.permits.result c.permits.ensures.fixed
+pub returns-clause-cached : goal.returns-clause-cached
+returns-clause-cached g c = catalogues_cached c.permits.new.self c.permits.result c.permits.ensures.fixed
 
-pub returns-clause-still_known : goal.returns-clause-still_known
-returns-clause-still_known g c = still_known c.args.self.now c.permits.new.self c.permits.ensures.keeps c.permits.ensures.files_stay
+pub returns-clause-still_cached : goal.returns-clause-still_cached
+returns-clause-still_cached g c = still_cached c.args.self.now c.permits.new.self c.permits.ensures.keeps c.permits.ensures.files_stay
 
 pub returns-clause-reads : goal.returns-clause-reads
 returns-clause-reads g c = reads_catalogues c.args.self.now c.permits.new.self c.permits.ensures.still c.permits.ensures.reads

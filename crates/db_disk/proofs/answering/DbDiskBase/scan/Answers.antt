@@ -1,16 +1,16 @@
-use Rattle.db_disk.specs.Laws.{lawful_told}
+use Rattle.db_disk.specs.Laws.{lawful_held}
 use Rattle.db_disk.specs.Shown.{db_of, disk_in}
-use Rattle.db_disk.proofs.AsBase.{fixed, ready, stays, told_after}
+use Rattle.db_disk.proofs.AsBase.{fixed, ready, stays, known_after}
 use Rattle.db_disk.proofs.Leaving.{asked_on}
-use Rattle.db_disk.proofs.ReadBy.{catalogues_known, reads_rows, scan_begins, scan_goes_on, still_known}
-use Rattle.db_disk.proofs.Scanned.{told_fits}
+use Rattle.db_disk.proofs.ReadBy.{catalogues_cached, reads_rows, scan_begins, scan_goes_on, still_cached}
+use Rattle.db_disk.proofs.Scanned.{known_fits}
 use Rattle.db_disk.proofs.answering.DbDiskBase.scan.Goals as goal
 
 pub returns-clause-fits : goal.returns-clause-fits
 returns-clause-fits g c =
     let d = c.args.self.now in
-    told_after d c.scan.new.self c.scan.ensures.kept c.scan.ensures.keeps _
-    (λ db is. told_fits (db_of d) db c.args.key.now c.args.probe.now c.args.at.now c.scan.new.at c.scan.result (lawful_told g.D.Disk.tells (g.D.Disk.seen (disk_in d)) db is) is (c.scan.ensures.told db is)) c.scan.ensures.fits
+    known_after d c.scan.new.self c.scan.ensures.kept c.scan.ensures.keeps _
+    (λ db is. known_fits (db_of d) db c.args.key.now c.args.probe.now c.args.at.now c.scan.new.at c.scan.result (lawful_held g.D.Disk.is_known (g.D.Disk.seen (disk_in d)) db is) is (c.scan.ensures.known db is)) c.scan.ensures.fits
 
 pub returns-clause-stays : goal.returns-clause-stays
 returns-clause-stays g c = stays c.args.self.now c.scan.new.self c.scan.ensures.kept c.scan.ensures.keeps
@@ -24,11 +24,11 @@ returns-clause-ready g c = ready c.scan.new.self c.scan.result c.scan.ensures.fi
 pub returns-clause-asked : goal.returns-clause-asked
 returns-clause-asked g c = λ b before. asked_on g.met.D.Disk.counts_now g.met.D.Disk.only_now b c.args.self.now c.scan.new.self c.scan.ensures.kept c.scan.ensures.crash c.scan.ensures.stays before
 
-pub returns-clause-known : goal.returns-clause-known
-returns-clause-known g c = catalogues_known c.scan.new.self c.scan.result c.scan.ensures.fixed
+pub returns-clause-cached : goal.returns-clause-cached
+returns-clause-cached g c = catalogues_cached c.scan.new.self c.scan.result c.scan.ensures.fixed
 
-pub returns-clause-still_known : goal.returns-clause-still_known
-returns-clause-still_known g c = still_known c.args.self.now c.scan.new.self c.scan.ensures.keeps c.scan.ensures.files_stay
+pub returns-clause-still_cached : goal.returns-clause-still_cached
+returns-clause-still_cached g c = still_cached c.args.self.now c.scan.new.self c.scan.ensures.keeps c.scan.ensures.files_stay
 
 pub returns-clause-reads : goal.returns-clause-reads
 returns-clause-reads g c = reads_rows c.args.self.now c.scan.new.self c.args.key.now c.scan.ensures.reads c.scan.ensures.opening_reads

@@ -1,6 +1,6 @@
 use Rattle.std.proofs.Common.{refl, ◌∙◌}
 use Rattle.calculus.specs.Schema.{schema_of}
-use Rattle.am_traits.specs.Told.{known_at}
+use Rattle.base_trait.specs.Known.{known_at}
 use Rattle.db_disk.proofs.Asking.{schema_answer, known_alike}
 use Rattle.db_disk.proofs.Causes.{want_caused}
 use Rattle.db_disk.proofs.Knowing.{same_schema, still_known, there_open}
@@ -11,13 +11,13 @@ pub invariant_of-self : goal.invariant_of-self
 invariant_of-self g c = record {
   ready = c.open.new.self.ready;
   opened = λ x is. there_open c.open.new.self.catalog _ c.in_ok-open.ensures.there c.open.new.self.opened;
-  known = λ told. still_known _ _ c.open.new.self.catalog c.info.new.catalog refl (c.open.new.self.known told) c.info.ensures.same;
+  knows = λ known. still_known _ _ c.open.new.self.catalog c.info.new.catalog refl (c.open.new.self.knows known) c.info.ensures.same;
 }
 
-pub returns-clause-told : goal.returns-clause-told
-returns-clause-told g c = λ db is.
+pub returns-clause-known : goal.returns-clause-known
+returns-clause-known g c = λ db is.
     schema_answer (λ info. info) (λ db. known_at db c.args.key.now) db (λ db. known_alike db c.args.key.now) c.info.result
-    (c.info.ensures.told (schema_of db) (same_schema c.open.new.self.catalog c.info.new.catalog c.info.ensures.same ∙ c.in_ok-open.ensures.schema db is))
+    (c.info.ensures.known (schema_of db) (same_schema c.open.new.self.catalog c.info.new.catalog c.info.ensures.same ∙ c.in_ok-open.ensures.schema db is))
 
 pub returns-clause-fixed : goal.returns-clause-fixed
 returns-clause-fixed g c = still_there c.open.new.self.catalog c.info.new.catalog c.info.result (same_schema c.open.new.self.catalog c.info.new.catalog c.info.ensures.same) c.in_ok-open.ensures.there

@@ -5,7 +5,7 @@ use Rattle.db_disk.specs.Known.{IsKnown}
 use Rattle.db_disk.proofs.Causes.{as_unit, same_fault}
 use Rattle.batch_file.specs.Redone.{redone}
 use Rattle.db_disk.proofs.Fills.{loaded_known}
-use Rattle.db_disk.proofs.Holding.{told_same}
+use Rattle.db_disk.proofs.Holding.{known_same}
 use Rattle.db_disk.proofs.Ready.{file_caused, ready_holds, ready_pages, still_ready}
 use Rattle.db_disk.proofs.Reading.{none_there}
 use Rattle.catalog.proofs.Rises.{rises_not}
@@ -16,7 +16,7 @@ pub invariant_of-self : goal.invariant_of-self
 invariant_of-self g c = record {
   ready = λ is. still_ready _ _ (c.args.self.now.ready c.requires) (c.load.ensures.came c.args.self.now.store (comes_of_itself c.args.self.now.store)) (c.load.ensures.only_read c.args.self.now.store (reads_of_itself c.args.self.now.store));
   opened = λ x is. c.requires;
-  known = λ told. loaded_known _ _ (c.args.self.now.ready c.requires) (c.load.ensures.only_read c.args.self.now.store (reads_of_itself c.args.self.now.store)) _ told c.in-Ok.ensures.knows c.in-Ok.ensures.lies;
+  knows = λ known. loaded_known _ _ (c.args.self.now.ready c.requires) (c.load.ensures.only_read c.args.self.now.store (reads_of_itself c.args.self.now.store)) _ known c.in-Ok.ensures.knows c.in-Ok.ensures.lies;
 }
 
 pub invariant_of-self-in-Err-1 : goal.invariant_of-self-in-Err-1
@@ -25,18 +25,18 @@ invariant_of-self-in-Err-1 g c =
     record {
       ready = λ is. still_ready c.args.self.now.store c.load.new.store (c.args.self.now.ready is) (c.load.ensures.came c.args.self.now.store (comes_of_itself c.args.self.now.store)) only;
       opened = c.args.self.now.opened;
-      known = λ told. subst (λ m. IsKnown m c.args.self.now.catalog) (sym (only.reads told).seen_same) (c.args.self.now.known told);
+      knows = λ known. subst (λ m. IsKnown m c.args.self.now.catalog) (sym (only.reads known).seen_same) (c.args.self.now.knows known);
     }
 
 pub returns-in-Ok-clause-headless : goal.returns-in-Ok-clause-headless
-returns-in-Ok-clause-headless g c = λ told none off. c.in-Ok.ensures.headless _ (ready_pages c.args.self.now.store (c.args.self.now.ready c.requires) told) off
+returns-in-Ok-clause-headless g c = λ known none off. c.in-Ok.ensures.headless _ (ready_pages c.args.self.now.store (c.args.self.now.ready c.requires) known) off
 
 pub returns-in-Err-clause-no_head : goal.returns-in-Err-clause-no_head
-returns-in-Err-clause-no_head g c = λ told page is.
-    c.load.ensures.no_head _ page (ready_pages c.args.self.now.store (c.args.self.now.ready c.requires) told) (c.in-Err.is ∙ same_fault _ _ is)
+returns-in-Err-clause-no_head g c = λ known page is.
+    c.load.ensures.no_head _ page (ready_pages c.args.self.now.store (c.args.self.now.ready c.requires) known) (c.in-Err.is ∙ same_fault _ _ is)
 
 pub returns-in-Err-clause-headless : goal.returns-in-Err-clause-headless
-returns-in-Err-clause-headless g c = λ told none off. c.in-Err.ensures.headless _ (ready_pages c.args.self.now.store (c.args.self.now.ready c.requires) told) off
+returns-in-Err-clause-headless g c = λ known none off. c.in-Err.ensures.headless _ (ready_pages c.args.self.now.store (c.args.self.now.ready c.requires) known) off
 
 pub returns-in-Err-clause-cause : goal.returns-in-Err-clause-cause
 returns-in-Err-clause-cause g c = as_unit _ _ _ _ (file_caused {T = Catalog} _ _ _ _ _ _
@@ -52,30 +52,30 @@ pub returns-in-Err-clause-still : goal.returns-in-Err-clause-still
 returns-in-Err-clause-still g c = λ s is. none_there c.args.self.now.catalog c.is_some.result s _ c.is_some.ensures c.if-is_some.false is
 
 pub returns-in-Ok-clause-reads : goal.returns-in-Ok-clause-reads
-returns-in-Ok-clause-reads g c = λ told all has. c.load.ensures.reads _ all (ready_pages c.args.self.now.store (c.args.self.now.ready c.requires) told) has
+returns-in-Ok-clause-reads g c = λ known all has. c.load.ensures.reads _ all (ready_pages c.args.self.now.store (c.args.self.now.ready c.requires) known) has
 
 pub returns-in-Err-clause-reads : goal.returns-in-Err-clause-reads
-returns-in-Err-clause-reads g c = λ told all has. c.load.ensures.reads _ all (ready_pages c.args.self.now.store (c.args.self.now.ready c.requires) told) has
+returns-in-Err-clause-reads g c = λ known all has. c.load.ensures.reads _ all (ready_pages c.args.self.now.store (c.args.self.now.ready c.requires) known) has
 
 pub returns-then-is_some-clause-reads : goal.returns-then-is_some-clause-reads
-returns-then-is_some-clause-reads g c = λ told all has. rises_not (all + 2) _ _ refl
+returns-then-is_some-clause-reads g c = λ known all has. rises_not (all + 2) _ _ refl
 
 pub returns-in-Ok-clause-only_reads : goal.returns-in-Ok-clause-only_reads
-returns-in-Ok-clause-only_reads g c = λ told. (c.load.ensures.only_read c.args.self.now.store (reads_of_itself c.args.self.now.store)).reads told
+returns-in-Ok-clause-only_reads g c = λ known. (c.load.ensures.only_read c.args.self.now.store (reads_of_itself c.args.self.now.store)).reads known
 
 pub returns-in-Ok-clause-kept : goal.returns-in-Ok-clause-kept
-returns-in-Ok-clause-kept g c = told_same g.D.Disk.tells _ _ (λ told. ap redone ((c.load.ensures.only_read c.args.self.now.store (reads_of_itself c.args.self.now.store)).reads told).seen_same)
+returns-in-Ok-clause-kept g c = known_same g.D.Disk.is_known _ _ (λ known. ap redone ((c.load.ensures.only_read c.args.self.now.store (reads_of_itself c.args.self.now.store)).reads known).seen_same)
 
 pub returns-in-Err-clause-only_reads : goal.returns-in-Err-clause-only_reads
-returns-in-Err-clause-only_reads g c = λ told. (c.load.ensures.only_read c.args.self.now.store (reads_of_itself c.args.self.now.store)).reads told
+returns-in-Err-clause-only_reads g c = λ known. (c.load.ensures.only_read c.args.self.now.store (reads_of_itself c.args.self.now.store)).reads known
 
 pub returns-in-Err-clause-kept : goal.returns-in-Err-clause-kept
-returns-in-Err-clause-kept g c = told_same g.D.Disk.tells _ _ (λ told. ap redone ((c.load.ensures.only_read c.args.self.now.store (reads_of_itself c.args.self.now.store)).reads told).seen_same)
+returns-in-Err-clause-kept g c = known_same g.D.Disk.is_known _ _ (λ known. ap redone ((c.load.ensures.only_read c.args.self.now.store (reads_of_itself c.args.self.now.store)).reads known).seen_same)
 
 pub returns-in-Err-clause-at_head : goal.returns-in-Err-clause-at_head
-returns-in-Err-clause-at_head g c = λ told page is.
-    c.load.ensures.at_head _ page (ready_pages c.args.self.now.store (c.args.self.now.ready c.requires) told) (c.in-Err.is ∙ same_fault _ _ is)
+returns-in-Err-clause-at_head g c = λ known page is.
+    c.load.ensures.at_head _ page (ready_pages c.args.self.now.store (c.args.self.now.ready c.requires) known) (c.in-Err.is ∙ same_fault _ _ is)
 
 pub returns-in-Err-clause-at_catalog : goal.returns-in-Err-clause-at_catalog
-returns-in-Err-clause-at_catalog g c = λ told head file page e.
-    c.load.ensures.at_catalog _ file page (ready_pages c.args.self.now.store (c.args.self.now.ready c.requires) told) head (of_base c.in-Err.fault c.load.result _ file page c.in-Err.is refl e)
+returns-in-Err-clause-at_catalog g c = λ known head file page e.
+    c.load.ensures.at_catalog _ file page (ready_pages c.args.self.now.store (c.args.self.now.ready c.requires) known) head (of_base c.in-Err.fault c.load.result _ file page c.in-Err.is refl e)

@@ -1,6 +1,6 @@
 use Rattle.std.proofs.Common.{◌∙◌}
 use Rattle.batch_store.specs.Store.{disk_of}
-use Rattle.db_disk.proofs.Holding.{told_some}
+use Rattle.db_disk.proofs.Holding.{known_some}
 use Rattle.db_disk.proofs.Knowing.{schema_held}
 use Rattle.db_disk.proofs.Reading.{files_held}
 use Rattle.db_disk.proofs.Headless.{at_head_by, of_base}
@@ -9,14 +9,14 @@ use Rattle.db_disk.proofs.base.DbDisk.open.Goals as goal
 pub returns-in-Ok-clause-schema : goal.returns-in-Ok-clause-schema
 returns-in-Ok-clause-schema g c = λ db is.
     let now = c.start.new.self in
-    let told = told_some g.D.Disk.tells (g.D.Disk.seen (disk_of now.store)) db (c.start.ensures.kept ∙ is) in
-    schema_held (g.D.Disk.seen (disk_of now.store)) now.catalog db (now.known told.0) told.1 c.in-Ok.ensures.there
+    let known = known_some g.D.Disk.is_known (g.D.Disk.seen (disk_of now.store)) db (c.start.ensures.kept ∙ is) in
+    schema_held (g.D.Disk.seen (disk_of now.store)) now.catalog db (now.knows known.0) known.1 c.in-Ok.ensures.there
 
 pub returns-in-Ok-clause-files : goal.returns-in-Ok-clause-files
 returns-in-Ok-clause-files g c = λ db is.
     let now = c.start.new.self in
-    let told = told_some g.D.Disk.tells (g.D.Disk.seen (disk_of now.store)) db (c.start.ensures.kept ∙ is) in
-    files_held (g.D.Disk.seen (disk_of now.store)) now.catalog db (now.known told.0) told.1 c.in-Ok.ensures.there
+    let known = known_some g.D.Disk.is_known (g.D.Disk.seen (disk_of now.store)) db (c.start.ensures.kept ∙ is) in
+    files_held (g.D.Disk.seen (disk_of now.store)) now.catalog db (now.knows known.0) known.1 c.in-Ok.ensures.there
 
 pub returns-in-Ok-clause-kept : goal.returns-in-Ok-clause-kept
 returns-in-Ok-clause-kept g c = c.start.ensures.kept
@@ -61,17 +61,17 @@ pub returns-in-Err-clause-stays : goal.returns-in-Err-clause-stays
 returns-in-Err-clause-stays g c = c.start.ensures.stays
 
 pub returns-in-Err-clause-at_batch : goal.returns-in-Err-clause-at_batch
-returns-in-Err-clause-at_batch g c = λ told none file page is. c.start.ensures.at_batch told none file page (of_base c.in-Err.fault c.start.result c.base_fault.result file page c.in-Err.is c.base_fault.ensures is)
+returns-in-Err-clause-at_batch g c = λ known none file page is. c.start.ensures.at_batch known none file page (of_base c.in-Err.fault c.start.result c.base_fault.result file page c.in-Err.is c.base_fault.ensures is)
 
 pub returns-in-Err-clause-at_head : goal.returns-in-Err-clause-at_head
-returns-in-Err-clause-at_head g c = λ told m is none off file page e.
-    at_head_by m c.in-Err.fault c.start.result c.base_fault.result file page c.in-Err.is c.base_fault.ensures (c.start.ensures.headless told m is none off) (λ p same. c.start.ensures.at_head told m p is same) e
+returns-in-Err-clause-at_head g c = λ known m is none off file page e.
+    at_head_by m c.in-Err.fault c.start.result c.base_fault.result file page c.in-Err.is c.base_fault.ensures (c.start.ensures.headless known m is none off) (λ p same. c.start.ensures.at_head known m p is same) e
 
 pub returns-in-Ok-clause-at_batch : goal.returns-in-Ok-clause-at_batch
-returns-in-Ok-clause-at_batch g c = λ told none file page e. absurd (cc e)
+returns-in-Ok-clause-at_batch g c = λ known none file page e. absurd (cc e)
 
 pub returns-in-Ok-clause-at_head : goal.returns-in-Ok-clause-at_head
-returns-in-Ok-clause-at_head g c = λ told m is none off file page e. absurd (cc e)
+returns-in-Ok-clause-at_head g c = λ known m is none off file page e. absurd (cc e)
 
 pub returns-in-Ok-clause-files_stay : goal.returns-in-Ok-clause-files_stay
 returns-in-Ok-clause-files_stay g c = c.start.ensures.files_stay
@@ -80,5 +80,5 @@ pub returns-in-Err-clause-files_stay : goal.returns-in-Err-clause-files_stay
 returns-in-Err-clause-files_stay g c = c.start.ensures.files_stay
 
 pub returns-in-Err-clause-at_catalog : goal.returns-in-Err-clause-at_catalog
-returns-in-Err-clause-at_catalog g c = λ told m is head file page e.
-    c.start.ensures.at_catalog told m is head file page (of_base c.in-Err.fault c.start.result c.base_fault.result file page c.in-Err.is c.base_fault.ensures e)
+returns-in-Err-clause-at_catalog g c = λ known m is head file page e.
+    c.start.ensures.at_catalog known m is head file page (of_base c.in-Err.fault c.start.result c.base_fault.result file page c.in-Err.is c.base_fault.ensures e)

@@ -11,13 +11,13 @@ pub invariant_of-self : goal.invariant_of-self
 invariant_of-self g c = record {
   ready = c.open.new.self.ready;
   opened = λ x is. there_open c.open.new.self.catalog _ c.in_ok-open.ensures.there c.open.new.self.opened;
-  known = λ told. still_known _ _ c.open.new.self.catalog c.permits.new.catalog refl (c.open.new.self.known told) c.permits.ensures.same;
+  knows = λ known. still_known _ _ c.open.new.self.catalog c.permits.new.catalog refl (c.open.new.self.knows known) c.permits.ensures.same;
 }
 
-pub returns-clause-told : goal.returns-clause-told
-returns-clause-told g c = λ db is.
+pub returns-clause-known : goal.returns-clause-known
+returns-clause-known g c = λ db is.
     schema_answer (λ ps. ps.items) (λ db. permits_on db c.args.key.now) db (λ db. permits_alike db c.args.key.now) c.permits.result
-    (c.permits.ensures.told (schema_of db) (same_schema c.open.new.self.catalog c.permits.new.catalog c.permits.ensures.same ∙ c.in_ok-open.ensures.schema db is))
+    (c.permits.ensures.known (schema_of db) (same_schema c.open.new.self.catalog c.permits.new.catalog c.permits.ensures.same ∙ c.in_ok-open.ensures.schema db is))
 
 pub returns-clause-fixed : goal.returns-clause-fixed
 returns-clause-fixed g c = still_there c.open.new.self.catalog c.permits.new.catalog c.permits.result (same_schema c.open.new.self.catalog c.permits.new.catalog c.permits.ensures.same) c.in_ok-open.ensures.there

@@ -1,6 +1,6 @@
 use Rattle.std.proofs.Common.{refl, sym, subst, drop, Option, ◌∙◌, ◌+◌, ap}
 use Rattle.calculus.specs.Database.{Db}
-use Rattle.am_traits.specs.Scans.{Gives, IsOver}
+use Rattle.base_trait.specs.Scans.{Gives, IsOver}
 use Rattle.plain_base.specs.Places.{rows_before}
 use Rattle.db_disk.specs.Shown.{rows_left}
 use Rattle.db_disk.proofs.Causes.{want_caused}
@@ -15,14 +15,14 @@ pub invariant_of-self : goal.invariant_of-self
 invariant_of-self g c = record {
   ready = c.filled.new.self.ready;
   opened = λ x is. there_is_open c.filled.new.self.catalog _ c.in_ok-filled.ensures.there c.filled.new.self.opened;
-  known = λ told. still_known _ _ c.filled.new.self.catalog c.scan.new.catalog refl (c.filled.new.self.known told) c.scan.ensures.same;
+  knows = λ known. still_known _ _ c.filled.new.self.catalog c.scan.new.catalog refl (c.filled.new.self.knows known) c.scan.ensures.same;
 }
 
-pub returns-clause-told : goal.returns-clause-told
-returns-clause-told g c = λ db is.
+pub returns-clause-known : goal.returns-clause-known
+returns-clause-known g c = λ db is.
     subst (λ (o : Option Db). Gives c.args.probe.now (rows_left o c.args.key.now) c.args.at.now c.scan.new.at c.scan.result) (sym is)
     (from_rows c.filled.new.self.catalog c.args.key.now db (λ rows. Gives c.args.probe.now (λ at. drop (rows_before at) rows) c.args.at.now c.scan.new.at c.scan.result) c.in_ok-filled.ensures.there
-    (c.in_ok-filled.ensures.rows db is) c.scan.ensures.told)
+    (c.in_ok-filled.ensures.rows db is) c.scan.ensures.known)
 
 pub returns-clause-over : goal.returns-clause-over
 returns-clause-over g c = λ db is.
@@ -38,17 +38,17 @@ pub returns-clause-in_memory : goal.returns-clause-in_memory
 returns-clause-in_memory g c = given_ok c.scan.result _ (same_rows c.filled.new.self.catalog c.scan.new.catalog c.args.key.now c.scan.ensures.same ∙ c.in_ok-filled.ensures.in_memory)
 
 pub returns-clause-reads : goal.returns-clause-reads
-returns-clause-reads g c = λ s known.
-    rises_as _ _ _ _ (ap (λ (f : Files). f.used c.args.key.now) (sym (same_files c.filled.new.self.catalog c.scan.new.catalog c.scan.ensures.same))) (c.filled.ensures.reads s known)
+returns-clause-reads g c = λ s knows.
+    rises_as _ _ _ _ (ap (λ (f : Files). f.used c.args.key.now) (sym (same_files c.filled.new.self.catalog c.scan.new.catalog c.scan.ensures.same))) (c.filled.ensures.reads s knows)
 
 pub returns-clause-opening_reads : goal.returns-clause-opening_reads
-returns-clause-opening_reads g c = λ told all by.
-    rises_as _ _ _ _ (ap (λ (f : Files). all + f.used c.args.key.now) (sym (same_files c.filled.new.self.catalog c.scan.new.catalog c.scan.ensures.same))) (c.filled.ensures.opening_reads told all by)
+returns-clause-opening_reads g c = λ known all by.
+    rises_as _ _ _ _ (ap (λ (f : Files). all + f.used c.args.key.now) (sym (same_files c.filled.new.self.catalog c.scan.new.catalog c.scan.ensures.same))) (c.filled.ensures.opening_reads known all by)
 
 pub returns-clause-fits : goal.returns-clause-fits
-returns-clause-fits g c = λ s known there.
+returns-clause-fits g c = λ s knows there.
     scan_fits c.filled.new.self.catalog s c.args.key.now c.args.probe.now c.args.at.now c.scan.new.at c.scan.result
-    (sym (same_schema c.filled.new.self.catalog c.scan.new.catalog c.scan.ensures.same) ∙ known) c.scan.ensures.told there
+    (sym (same_schema c.filled.new.self.catalog c.scan.new.catalog c.scan.ensures.same) ∙ knows) c.scan.ensures.known there
 
 pub returns-clause-cause : goal.returns-clause-cause
 returns-clause-cause g c = want_caused _ _ _ c.scan.result c.in_ok-filled.ensures.cause.caused c.scan.ensures.want

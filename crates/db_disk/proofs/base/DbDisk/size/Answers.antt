@@ -10,11 +10,11 @@ pub invariant_of-self : goal.invariant_of-self
 invariant_of-self g c = record {
   ready = c.filled.new.self.ready;
   opened = λ x is. there_is_open c.filled.new.self.catalog _ c.in_ok-filled.ensures.there c.filled.new.self.opened;
-  known = λ told. still_known _ _ c.filled.new.self.catalog c.size.new.catalog refl (c.filled.new.self.known told) c.size.ensures.same;
+  knows = λ known. still_known _ _ c.filled.new.self.catalog c.size.new.catalog refl (c.filled.new.self.knows known) c.size.ensures.same;
 }
 
-pub returns-clause-told : goal.returns-clause-told
-returns-clause-told g c = λ db is. from_rows c.filled.new.self.catalog c.args.key.now db (λ rows. IfOk c.size.result (λ n. n ≡ length rows)) c.in_ok-filled.ensures.there (c.in_ok-filled.ensures.rows db is) c.size.ensures.told
+pub returns-clause-known : goal.returns-clause-known
+returns-clause-known g c = λ db is. from_rows c.filled.new.self.catalog c.args.key.now db (λ rows. IfOk c.size.result (λ n. n ≡ length rows)) c.in_ok-filled.ensures.there (c.in_ok-filled.ensures.rows db is) c.size.ensures.known
 
 pub returns-clause-fixed : goal.returns-clause-fixed
 returns-clause-fixed g c =
@@ -24,12 +24,12 @@ pub returns-clause-in_memory : goal.returns-clause-in_memory
 returns-clause-in_memory g c = given_ok c.size.result _ (same_rows c.filled.new.self.catalog c.size.new.catalog c.args.key.now c.size.ensures.same ∙ c.in_ok-filled.ensures.in_memory)
 
 pub returns-clause-reads : goal.returns-clause-reads
-returns-clause-reads g c = λ s known.
-    rises_as _ _ _ _ (ap (λ (f : Files). f.used c.args.key.now) (sym (same_files c.filled.new.self.catalog c.size.new.catalog c.size.ensures.same))) (c.filled.ensures.reads s known)
+returns-clause-reads g c = λ s knows.
+    rises_as _ _ _ _ (ap (λ (f : Files). f.used c.args.key.now) (sym (same_files c.filled.new.self.catalog c.size.new.catalog c.size.ensures.same))) (c.filled.ensures.reads s knows)
 
 pub returns-clause-opening_reads : goal.returns-clause-opening_reads
-returns-clause-opening_reads g c = λ told all by.
-    rises_as _ _ _ _ (ap (λ (f : Files). all + f.used c.args.key.now) (sym (same_files c.filled.new.self.catalog c.size.new.catalog c.size.ensures.same))) (c.filled.ensures.opening_reads told all by)
+returns-clause-opening_reads g c = λ known all by.
+    rises_as _ _ _ _ (ap (λ (f : Files). all + f.used c.args.key.now) (sym (same_files c.filled.new.self.catalog c.size.new.catalog c.size.ensures.same))) (c.filled.ensures.opening_reads known all by)
 
 pub returns-clause-cause : goal.returns-clause-cause
 returns-clause-cause g c = want_caused _ _ _ c.size.result c.in_ok-filled.ensures.cause.caused c.size.ensures.want

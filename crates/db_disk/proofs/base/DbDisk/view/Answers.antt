@@ -1,6 +1,6 @@
 use Rattle.std.proofs.Common.{refl, ◌∙◌}
 use Rattle.calculus.specs.Schema.{schema_of}
-use Rattle.am_traits.specs.Told.{query_at}
+use Rattle.base_trait.specs.Known.{query_at}
 use Rattle.db_disk.proofs.Asking.{schema_answer, view_alike}
 use Rattle.db_disk.proofs.Causes.{want_caused}
 use Rattle.db_disk.proofs.Knowing.{same_schema, still_known, there_open}
@@ -11,13 +11,13 @@ pub invariant_of-self : goal.invariant_of-self
 invariant_of-self g c = record {
   ready = c.open.new.self.ready;
   opened = λ x is. there_open c.open.new.self.catalog _ c.in_ok-open.ensures.there c.open.new.self.opened;
-  known = λ told. still_known _ _ c.open.new.self.catalog c.view.new.catalog refl (c.open.new.self.known told) c.view.ensures.same;
+  knows = λ known. still_known _ _ c.open.new.self.catalog c.view.new.catalog refl (c.open.new.self.knows known) c.view.ensures.same;
 }
 
-pub returns-clause-told : goal.returns-clause-told
-returns-clause-told g c = λ db is.
+pub returns-clause-known : goal.returns-clause-known
+returns-clause-known g c = λ db is.
     schema_answer (λ q. q) (λ db. query_at db c.args.key.now) db (λ db. view_alike db c.args.key.now) c.view.result
-    (c.view.ensures.told (schema_of db) (same_schema c.open.new.self.catalog c.view.new.catalog c.view.ensures.same ∙ c.in_ok-open.ensures.schema db is))
+    (c.view.ensures.known (schema_of db) (same_schema c.open.new.self.catalog c.view.new.catalog c.view.ensures.same ∙ c.in_ok-open.ensures.schema db is))
 
 pub returns-clause-fixed : goal.returns-clause-fixed
 returns-clause-fixed g c = still_there c.open.new.self.catalog c.view.new.catalog c.view.result (same_schema c.open.new.self.catalog c.view.new.catalog c.view.ensures.same) c.in_ok-open.ensures.there

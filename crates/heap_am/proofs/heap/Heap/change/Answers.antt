@@ -1,6 +1,6 @@
 use Rattle.std.proofs.Common.{sym, refl, subst, IsTrue, arith}
 use Rattle.heap_am.specs.Heap.{heap_rows}
-use Rattle.access_traits.specs.Placed.{NowHolds, Replaced, rows_of}
+use Rattle.am_traits.specs.Placed.{NowHolds, Replaced, rows_of}
 use Rattle.heap_am.proofs.Changed.{are_short, bytes_are, none_of_them}
 use Rattle.heap_am.specs.Heap.{HeapFault}
 use Rattle.heap_am.proofs.Rooms.{room_left, cause_same}
@@ -12,11 +12,11 @@ pub extend-requires-clause-short : goal.extend-requires-clause-short
 extend-requires-clause-short g c =
     are_short c.items-then-is_empty.result.now c.in_ok-new.new c.items.result.now c.args.self.now.file.domains c.args.coming.now c.items-then-is_empty.ensures c.items.ensures c.in_ok-new.ensures c.args.self.now.some c.args.self.now.most c.requires.coming
 
-pub returns-then-is_empty-clause-told : goal.returns-then-is_empty-clause-told
-returns-then-is_empty-clause-told g c m rows t e differ once there = (
+pub returns-then-is_empty-clause-known : goal.returns-then-is_empty-clause-known
+returns-then-is_empty-clause-known g c m rows t e differ once there = (
   refl,
   subst (λ gone. NowHolds (heap_rows c.extend.new.self.file) (g.S.PageStore.pages c.extend.new.store) (Replaced rows gone c.args.coming.now)) (sym (none_of_them c.args.going.now c.is_empty.result c.is_empty.ensures c.if-is_empty.true))
-      (c.in_ok-extend.ensures.told m rows c.args.coming.now t e c.requires.coming
+      (c.in_ok-extend.ensures.known m rows c.args.coming.now t e c.requires.coming
       (bytes_are c.items-then-is_empty.result.now c.in_ok-new.new c.items.result.now c.args.self.now.file.domains c.args.coming.now c.items-then-is_empty.ensures c.items.ensures c.in_ok-new.ensures)),
 )
 
@@ -24,9 +24,9 @@ pub renew-requires-clause-short : goal.renew-requires-clause-short
 renew-requires-clause-short g c =
     are_short c.items-4.result.now c.in_ok-new.new c.items.result.now c.args.self.now.file.domains c.args.coming.now c.items-4.ensures c.items.ensures c.in_ok-new.ensures c.args.self.now.some c.args.self.now.most c.requires.coming
 
-pub returns-clause-told : goal.returns-clause-told
-returns-clause-told g c m rows t e differ once there =
-    c.renew.ensures.told m rows c.args.going.now c.args.coming.now t e c.requires.going
+pub returns-clause-known : goal.returns-clause-known
+returns-clause-known g c m rows t e differ once there =
+    c.renew.ensures.known m rows c.args.going.now c.args.coming.now t e c.requires.going
     (bytes_are c.items-3.result.now c.in_ok-gone.gone c.items-2.result.now c.args.self.now.file.domains c.args.going.now c.items-3.ensures c.items-2.ensures c.in_ok-gone.ensures)
     c.requires.coming
     (bytes_are c.items-4.result.now c.in_ok-new.new c.items.result.now c.args.self.now.file.domains c.args.coming.now c.items-4.ensures c.items.ensures c.in_ok-new.ensures)

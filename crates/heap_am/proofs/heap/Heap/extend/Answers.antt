@@ -11,8 +11,8 @@ returns-in_err-last-clause-cause g c =
     cause_by (HeapFault c.args.self.now.file) c.from_residual.result c.in_err-last.field-0.0
     (λ m a off. off_last c.args.self.now.file m a c.args.self.now.pages off) c.in_err-last.ensures.cause (handed_on c.from_residual.result c.in_err-last.field-0.0 c.from_residual.ensures.1)
 
-pub returns-clause-told : goal.returns-clause-told
-returns-clause-told g c m rows new t e all is =
+pub returns-clause-known : goal.returns-clause-known
+returns-clause-known g c m rows new t e all is =
     let file = c.args.self.now.file in
     let some = c.args.self.now.pages in
     rows_extended file _ m rows c.in_ok-last.last new c.args.coming.now (g.S.PageStore.pages c.extend.new.store) refl refl some refl c.in_ok-last.ensures.behind.0 e all is

@@ -1,7 +1,7 @@
 use Rattle.std.proofs.Common.{◌≡◌, Some}
 use Rattle.disk_model.specs.Disk.{Image}
-use Rattle.am_traits.specs.Scans.{next_meeting}
-use Rattle.access_traits.specs.Placed.{Placed, rows_from}
+use Rattle.base_trait.specs.Scans.{next_meeting}
+use Rattle.am_traits.specs.Placed.{Placed, rows_from}
 use Rattle.page_chain.specs.Lying.{place_of}
 use Rattle.page_chain.specs.Pages.{page_at}
 use Rattle.heap_am.specs.Heap.{heap_rows}

@@ -6,8 +6,8 @@ returns-clause-cause g c =
     cause_of_page (g.S.PageStore.pages c.args.store.now) c.args.self.now.file c.args.at.now.page c.page.new.out (g.S.PageStore.faults c.args.store.now) (g.S.PageStore.faults c.page.new.store) c.next_on_page.result
     c.in_ok-page.ensures.cause.caused c.in_ok-page.ensures.there c.next_on_page.ensures.fault
 
-pub returns-clause-told : goal.returns-clause-told
-returns-clause-told g c m rows t e = c.next_on_page.ensures.told m rows e (c.in_ok-page.ensures.there m t)
+pub returns-clause-known : goal.returns-clause-known
+returns-clause-known g c m rows t e = c.next_on_page.ensures.known m rows e (c.in_ok-page.ensures.there m t)
 
 pub returns-clause-place : goal.returns-clause-place
 returns-clause-place g c m rows t e = c.next_on_page.ensures.place m rows e (c.in_ok-page.ensures.there m t)

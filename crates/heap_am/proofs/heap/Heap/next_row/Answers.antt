@@ -1,6 +1,6 @@
 use Rattle.std.proofs.Common.{◌∙◌, refl, subst, Ok, arith}
 use Rattle.std.proofs.Math.Nat.{le_trans}
-use Rattle.access_traits.specs.Placed.{GivesBefore}
+use Rattle.am_traits.specs.Placed.{GivesBefore}
 use Rattle.heap_am.specs.Heap.{HeapFault}
 use Rattle.heap_am.specs.Met.{MetBefore}
 use Rattle.heap_am.proofs.Faults.{cause_later}
@@ -13,16 +13,16 @@ returns-in_err-row-clause-cause g c =
     cause_later (g.S.PageStore.pages c.args.store.now) (g.S.PageStore.pages c.pages.store) (HeapFault c.args.self.now.file) (g.S.PageStore.faults c.args.store.now) (g.S.PageStore.faults c.pages.store) (g.S.PageStore.faults c.next_read.new.store) c.from_residual.result c.in_err-row.field-0.0
     c.pages.invariant.same c.pages.invariant.faults c.in_err-row.ensures.cause (handed_on c.from_residual.result c.in_err-row.field-0.0 c.from_residual.ensures.1)
 
-pub returns-clause-told : goal.returns-clause-told
-returns-clause-told g c m rows t e =
-    c.pages.invariant.told m rows t e ∙ heap_over c.args.self.now.file m rows c.args.probe.now c.pages.at c.args.self.now.pages e c.pages-test.false
+pub returns-clause-known : goal.returns-clause-known
+returns-clause-known g c m rows t e =
+    c.pages.invariant.known m rows t e ∙ heap_over c.args.self.now.file m rows c.args.probe.now c.pages.at c.args.self.now.pages e c.pages-test.false
 
 pub returns-clause-over : goal.returns-clause-over
 returns-clause-over g c m rows t e = heap_over c.args.self.now.file m rows c.args.probe.now c.pages.at c.args.self.now.pages e c.pages-test.false
 
 pub pages-preserved : goal.pages-preserved
 pages-preserved g c = record {
-  told = λ m rows t e. c.pages.invariant.told m rows t e ∙ subst (MetBefore rows c.args.probe.now c.pages.at c.next_read.new.at) c.in_default.is (c.in_ok-row.ensures.told m rows (c.pages.invariant.same ∙ t) e);
+  known = λ m rows t e. c.pages.invariant.known m rows t e ∙ subst (MetBefore rows c.args.probe.now c.pages.at c.next_read.new.at) c.in_default.is (c.in_ok-row.ensures.known m rows (c.pages.invariant.same ∙ t) e);
   same = c.next_read.ensures.same ∙ c.pages.invariant.same;
   came = λ s came. c.next_read.ensures.came s (c.pages.invariant.came s came);
   only_read = λ s read. c.next_read.ensures.only_read s (c.pages.invariant.only_read s read);
@@ -32,7 +32,7 @@ pages-preserved g c = record {
 
 pub pages-init : goal.pages-init
 pages-init g c = record {
-  told = λ m rows t e. refl;
+  known = λ m rows t e. refl;
   same = refl;
   came = λ s came. came;
   only_read = λ s read. read;
@@ -79,9 +79,9 @@ returns-in-Some-clause-reads g c = le_trans c.in_ok-row.ensures.reads c.pages.in
 pub returns-in-Some-clause-cause : goal.returns-in-Some-clause-cause
 returns-in-Some-clause-cause g c = let calm = c.in_ok-row.ensures.cause.caused ∙ c.pages.invariant.faults in record { later = omega (arith, calm); caused = calm }
 
-pub returns-in-Some-clause-told : goal.returns-in-Some-clause-told
-returns-in-Some-clause-told g c m rows t e =
-    c.pages.invariant.told m rows t e ∙ subst (MetBefore rows c.args.probe.now c.pages.at c.next_read.new.at) c.in-Some.is (c.in_ok-row.ensures.told m rows (c.pages.invariant.same ∙ t) e)
+pub returns-in-Some-clause-known : goal.returns-in-Some-clause-known
+returns-in-Some-clause-known g c m rows t e =
+    c.pages.invariant.known m rows t e ∙ subst (MetBefore rows c.args.probe.now c.pages.at c.next_read.new.at) c.in-Some.is (c.in_ok-row.ensures.known m rows (c.pages.invariant.same ∙ t) e)
 
 pub returns-in-Some-clause-place : goal.returns-in-Some-clause-place
 returns-in-Some-clause-place g c m rows t e =

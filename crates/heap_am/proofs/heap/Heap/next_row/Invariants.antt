@@ -1,13 +1,13 @@
 use Rattle.std.proofs.Common.{◌≡◌, ◌+◌, ◌-◌, ◌≤◌, Some}
 use Rattle.disk_model.specs.Disk.{Image}
-use Rattle.am_traits.specs.Scans.{next_meeting}
-use Rattle.access_traits.specs.Placed.{Placed, rows_from}
+use Rattle.base_trait.specs.Scans.{next_meeting}
+use Rattle.am_traits.specs.Placed.{Placed, rows_from}
 use Rattle.heap_am.specs.Heap.{heap_rows, pages_ahead}
 use Rattle.heap_am.proofs.heap.Heap.next_row.Given as goal
 
 abbrev pub invariant-pages : goal.invariant-pages
 invariant-pages g l = record {
-  told : (m : Image) (rows : Placed) → g.S.PageStore.pages l.fn.store ≡ Some m → heap_rows l.self.file m ≡ Some rows
+  known : (m : Image) (rows : Placed) → g.S.PageStore.pages l.fn.store ≡ Some m → heap_rows l.self.file m ≡ Some rows
       → next_meeting l.probe (rows_from rows l.fn.at) ≡ next_meeting l.probe (rows_from rows l.at);
   same : g.S.PageStore.pages l.store ≡ g.S.PageStore.pages l.fn.store;
   came : (s : _) → g.S.PageStore.came s l.fn.store → g.S.PageStore.came s l.store;

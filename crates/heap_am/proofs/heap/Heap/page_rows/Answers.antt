@@ -2,8 +2,8 @@ use Rattle.heap_am.proofs.Faults.{cause_of_page}
 use Rattle.heap_am.proofs.Standing.{page_read}
 use Rattle.heap_am.proofs.heap.Heap.page_rows.Goals as goal
 
-pub returns-clause-told : goal.returns-clause-told
-returns-clause-told g c m rows t e = c.lines.ensures.told m rows e (c.in_ok-page.ensures.there m t)
+pub returns-clause-known : goal.returns-clause-known
+returns-clause-known g c m rows t e = c.lines.ensures.known m rows e (c.in_ok-page.ensures.there m t)
 
 pub returns-clause-stands : goal.returns-clause-stands
 returns-clause-stands g c m t =

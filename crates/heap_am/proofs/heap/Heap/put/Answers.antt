@@ -19,8 +19,8 @@ returns-in_err-place-clause-cause g c =
     cause_by (HeapFault c.args.self.now.file) c.from_residual-in_err-place.result c.in_err-place.field-0.0
     (λ m a off. off_last c.args.self.now.file m a c.args.self.now.pages off) c.in_err-place.ensures.cause (handed_on c.from_residual-in_err-place.result c.in_err-place.field-0.0 c.from_residual-in_err-place.ensures.1)
 
-pub returns-clause-told : goal.returns-clause-told
-returns-clause-told g c m rows t e =
+pub returns-clause-known : goal.returns-clause-known
+returns-clause-known g c m rows t e =
     let file = c.args.self.now.file in
     let some = c.args.self.now.pages in
     let b = row_bytes_are c.items-2.result.now c.in_ok-bytes.bytes c.items.result.now c.args.self.now.file.domains c.args.row.now c.items-2.ensures c.items.ensures c.in_ok-bytes.ensures in

@@ -14,8 +14,8 @@ returns-in_err-done-clause-cause g c =
     cause_by (HeapFault c.args.self.now.file) c.from_residual.result c.in_err-done.field-0.0
     (λ m a off. no_chain_to c.args.self.now.file m a c.args.self.now.pages off) c.in_err-done.ensures.cause (handed_on c.from_residual.result c.in_err-done.field-0.0 c.from_residual.ensures.1)
 
-pub returns-clause-told : goal.returns-clause-told
-returns-clause-told g c m rows gone new t e go old co fresh differ once there =
+pub returns-clause-known : goal.returns-clause-known
+returns-clause-known g c m rows gone new t e go old co fresh differ once there =
     let file = c.args.self.now.file in
     let some = c.args.self.now.pages in
     let lie = subst (λ b. AllLie (pages_of m file.file) (numbers_from (file.used - 1) 0 ++ (file.used - 1) ∷ []) b) (sym old) (all_lie file m rows (file.used - 1) gone (omega arith) e go differ once there) in

@@ -39,7 +39,7 @@ numbers-preserved g c =
           (subst (λ rows. IsDoneOn file.file file.used (take c.numbers.number-index c.args.numbers.now ++ number ∷ []) c.args.going.now rows m (g.S.PageStore.pages c.renew_on.new.store))
           (first_both c.numbers.put c.in_ok-put.field-0 c.args.coming.now c.split_at.result.1.now c.split_at.ensures.back)
           (done_more file.file file.used (take c.numbers.number-index c.args.numbers.now) number c.args.going.now (take c.numbers.put c.args.coming.now) (take c.in_ok-put.field-0 c.split_at.result.1.now)
-          m (g.S.PageStore.pages c.numbers.store) (g.S.PageStore.pages c.renew_on.new.store) so_far (c.in_ok-put.ensures.done so_far.image so_far.told_still)
+          m (g.S.PageStore.pages c.numbers.store) (g.S.PageStore.pages c.renew_on.new.store) so_far (c.in_ok-put.ensures.done so_far.image so_far.still_known)
           (rising_new 0 file.used c.numbers.number-index c.args.numbers.now c.requires.rising lt)));
       came = λ s h. c.renew_on.ensures.came s (c.numbers.invariant.came s h);
       faults = c.in_ok-put.ensures.cause.caused ∙ c.numbers.invariant.faults;

@@ -1,8 +1,8 @@
 use Rattle.std.proofs.Common.{sym, refl, subst, ◌∙◌, ◌+◌, ◌-◌, ◌≡◌, ℕ, [], ◌∷◌, ◌++◌, Option, IfSome, Result, Ok, Err, take, arith}
 use Rattle.disk_model.specs.Disk.{Image}
 use Rattle.disk_model.specs.declared.disk.Addr.{Addr}
-use Rattle.am_traits.specs.declared.fault.BaseFault.{BaseFault}
-use Rattle.access_traits.specs.Causes.{HasFileCause}
+use Rattle.base_trait.specs.declared.fault.BaseFault.{BaseFault}
+use Rattle.am_traits.specs.Causes.{HasFileCause}
 use Rattle.page_chain.specs.Chains.{OffPage, numbers_from}
 use Rattle.page_chain.specs.Grown.{IsGrown}
 use Rattle.page_chain.specs.Pages.{pages_of}
@@ -15,15 +15,15 @@ use Rattle.heap_am.proofs.Changed.{are_there, rows_renewed, heap_chain_to, all_l
 use Rattle.heap_am.proofs.DoneNear.{near_all, renewed_near, off_rest}
 use Rattle.heap_am.proofs.Faults.{cause_later}
 use Rattle.std.specs.Result.{OnOk}
-use Rattle.access_traits.specs.Pages.{KeepsOthers}
+use Rattle.am_traits.specs.Pages.{KeepsOthers}
 use Rattle.heap_am.proofs.Rooms.{cause_same}
 use Rattle.heap_am.proofs.heap.Heap.renew_first.Goals as goal
 
 -- the answer of a later call
-cause_since : {T : Type 0} (told since : Option Image) (P : Image → Addr → Type 0) (before later now : ℕ) (r : Result T BaseFault)
-    → since ≡ told → later ≡ before → HasFileCause since P later now r → HasFileCause told P before now r
-cause_since told since P before later now (Ok x) same calm h = let c = h.caused in record { later = omega (arith, calm, c); caused = c ∙ calm }
-cause_since told since P before later now (Err e) same calm h = cause_later told since P before later now (Err e) e same calm h refl
+cause_since : {T : Type 0} (known since : Option Image) (P : Image → Addr → Type 0) (before later now : ℕ) (r : Result T BaseFault)
+    → since ≡ known → later ≡ before → HasFileCause since P later now r → HasFileCause known P before now r
+cause_since known since P before later now (Ok x) same calm h = let c = h.caused in record { later = omega (arith, calm, c); caused = c ∙ calm }
+cause_since known since P before later now (Err e) same calm h = cause_later known since P before later now (Err e) e same calm h refl
 
 pub returns-in_err-put_rest-in-Some-clause-cause : goal.returns-in_err-put_rest-in-Some-clause-cause
 returns-in_err-put_rest-in-Some-clause-cause g c =
@@ -34,8 +34,8 @@ returns-in_err-put_rest-in-Some-clause-cause g c =
     (λ m is. subst (λ done. IfSome done (λ put. IsDoneNear file.file file.used c.args.going.now (take put c.args.coming.now) m (g.S.PageStore.pages c.renew_near.new.store))) c.in-Some.is (c.in_ok-put.ensures.done m is)))
     c.in_err-put_rest-in-Some.ensures.cause c.from_residual-in_err-put_rest-in-Some.result c.from_residual-in_err-put_rest-in-Some.ensures.1
 
-pub returns-in_ok-put_rest-in-Some-clause-told : goal.returns-in_ok-put_rest-in-Some-clause-told
-returns-in_ok-put_rest-in-Some-clause-told g c m rows gone new t e go old co fresh differ once there =
+pub returns-in_ok-put_rest-in-Some-clause-known : goal.returns-in_ok-put_rest-in-Some-clause-known
+returns-in_ok-put_rest-in-Some-clause-known g c m rows gone new t e go old co fresh differ once there =
     let file = c.args.self.now.file in
     let now = c.put_rest.new.self.file in
     let between = g.S.PageStore.pages c.renew_near.new.store in
@@ -48,7 +48,7 @@ returns-in_ok-put_rest-in-Some-clause-told g c m rows gone new t e go old co fre
     let behind = c.in_ok-put_rest-in-Some.ensures.behind in
     let renewed = renewed_near file.file file.used (file.used - 1) (now.used - 1) c.args.going.now c.args.coming.now c.in-Some.put m between later its (omega arith) chain lie
     (λ kept. subst (λ rows. IsGrown file.file file.used (numbers_from (file.used - 1) 0) (file.used - 1) (now.used - 1) rows its.done.image later) c.split_at.ensures.back
-    (c.in_ok-put_rest-in-Some.ensures.grown its.done.image its.done.told_still (numbers_from (file.used - 1) 0) kept)) in (
+    (c.in_ok-put_rest-in-Some.ensures.grown its.done.image its.done.still_known (numbers_from (file.used - 1) 0) kept)) in (
       refl,
       rows_renewed file now m rows (now.used - 1) gone new c.args.going.now c.args.coming.now later same.file same.domains some (omega (arith, some, behind)) (omega (arith, behind)) e go old co fresh renewed,
     )
@@ -58,12 +58,12 @@ returns-in_ok-put_rest-in-Some-clause-others g c =
     let file = c.args.self.now.file in
     others_twice file.file (g.S.PageStore.pages c.args.store.now) (g.S.PageStore.pages c.renew_near.new.store) (g.S.PageStore.pages c.put_rest.new.store)
     (λ m is. let its = subst (λ done. IfSome done (λ put. IsDoneNear file.file file.used c.args.going.now (take put c.args.coming.now) m (g.S.PageStore.pages c.renew_near.new.store))) c.in-Some.is (c.in_ok-put.ensures.done m is) in
-    (its.done.image, its.done.told_still, its.done.elsewhere))
+    (its.done.image, its.done.still_known, its.done.elsewhere))
     c.in_ok-put_rest-in-Some.ensures.others
 
-pub returns-in-None-clause-told : goal.returns-in-None-clause-told
-returns-in-None-clause-told g c m rows gone new t e go old co fresh differ once there =
-    c.renew.ensures.told m rows gone new (c.in_ok-put.ensures.none c.in-None.is ∙ t) e go old co fresh differ once there
+pub returns-in-None-clause-known : goal.returns-in-None-clause-known
+returns-in-None-clause-known g c m rows gone new t e go old co fresh differ once there =
+    c.renew.ensures.known m rows gone new (c.in_ok-put.ensures.none c.in-None.is ∙ t) e go old co fresh differ once there
 
 pub returns-in-None-clause-cause : goal.returns-in-None-clause-cause
 returns-in-None-clause-cause g c =
@@ -98,7 +98,7 @@ returns-in-None-clause-file g c = c.renew.ensures.file
 
 pub returns-in-None-clause-others : goal.returns-in-None-clause-others
 returns-in-None-clause-others g c =
-    subst (λ told. OnOk c.renew.result (KeepsOthers c.args.self.now.file.file told (g.S.PageStore.pages c.renew.new.store))) (c.in_ok-put.ensures.none c.in-None.is) c.renew.ensures.others
+    subst (λ known. OnOk c.renew.result (KeepsOthers c.args.self.now.file.file known (g.S.PageStore.pages c.renew.new.store))) (c.in_ok-put.ensures.none c.in-None.is) c.renew.ensures.others
 
 pub returns-in_ok-put_rest-in-Some-clause-only : goal.returns-in_ok-put_rest-in-Some-clause-only
 returns-in_ok-put_rest-in-Some-clause-only g c m rows gone t e go old differ once all =

@@ -25,12 +25,12 @@ returns-in_err-put-clause-came g c = λ s came. c.renew_all.ensures.came s (c.co
 pub returns-clause-put : goal.returns-clause-put
 returns-clause-put g c = c.in_ok-put.ensures.put
 
-done_near : (file used : ℕ) (numbers items later : List ℕ) (rows going came : List (List ℕ)) (count long : ℕ) (m : Image) (told : Option Image)
+done_near : (file used : ℕ) (numbers items later : List ℕ) (rows going came : List (List ℕ)) (count long : ℕ) (m : Image) (known : Option Image)
     → IsRising 0 used numbers → items ≡ numbers → later ≡ numbers → rows ≡ going
     → count + length (staying rows (lying (pages_of m file) items)) ≡ length (lying (pages_of m file) items) → count ≡ long → long ≡ length rows
-    → IsDoneOn file used later rows came m told → IsDoneNear file used going came m told
-done_near file used numbers items later rows going came count long m told rising first second same counted is are done =
-    subst (λ gone. IsDoneNear file used gone came m told) same (record {
+    → IsDoneOn file used later rows came m known → IsDoneNear file used going came m known
+done_near file used numbers items later rows going came count long m known rising first second same counted is are done =
+    subst (λ gone. IsDoneNear file used gone came m known) same (record {
       numbers = later;
       rising = subst (IsRising 0 used) (sym second) rising;
       all = subst (λ ns. length rows + length (staying rows (lying (pages_of m file) ns)) ≡ length (lying (pages_of m file) ns)) (first ∙ sym second)

@@ -6,9 +6,9 @@ pub renew_first-requires-clause-short : goal.renew_first-requires-clause-short
 renew_first-requires-clause-short g c =
     are_short c.items-4.result.now c.in_ok-new.new c.items.result.now c.args.self.now.file.domains c.args.coming.now c.items-4.ensures c.items.ensures c.in_ok-new.ensures c.args.self.now.some c.args.self.now.most c.requires.coming
 
-pub returns-clause-told : goal.returns-clause-told
-returns-clause-told g c m rows t e differ once there =
-    c.renew_first.ensures.told m rows c.args.going.now c.args.coming.now t e c.requires.going
+pub returns-clause-known : goal.returns-clause-known
+returns-clause-known g c m rows t e differ once there =
+    c.renew_first.ensures.known m rows c.args.going.now c.args.coming.now t e c.requires.going
     (bytes_are c.items-3.result.now c.in_ok-gone.gone c.items-2.result.now c.args.self.now.file.domains c.args.going.now c.items-3.ensures c.items-2.ensures c.in_ok-gone.ensures)
     c.requires.coming
     (bytes_are c.items-4.result.now c.in_ok-new.new c.items.result.now c.args.self.now.file.domains c.args.coming.now c.items-4.ensures c.items.ensures c.in_ok-new.ensures)
@@ -29,8 +29,8 @@ returns-clause-cause g c = c.renew_first.ensures.cause
 pub renew_first-requires-clause-room : goal.renew_first-requires-clause-room
 renew_first-requires-clause-room g c = room_left c.args.self.now.file.used c.items-4.result.now c.in_ok-new.new c.items.result.now c.args.coming.now c.items-4.ensures c.in_ok-new.ensures c.requires.room
 
-pub returns-then-is_empty-clause-told : goal.returns-then-is_empty-clause-told
-returns-then-is_empty-clause-told g c = c.change.ensures.told
+pub returns-then-is_empty-clause-known : goal.returns-then-is_empty-clause-known
+returns-then-is_empty-clause-known g c = c.change.ensures.known
 
 pub returns-then-is_empty-clause-others : goal.returns-then-is_empty-clause-others
 returns-then-is_empty-clause-others g c = c.change.ensures.others

@@ -1,8 +1,8 @@
 use Rattle.heap_am.proofs.Faults.{cause_of_page}
 use Rattle.heap_am.proofs.heap.Heap.row_on_page.Goals as goal
 
-pub returns-clause-told : goal.returns-clause-told
-returns-clause-told g c m rows t e = c.line.ensures.told m rows e (c.in_ok-page.ensures.there m t)
+pub returns-clause-known : goal.returns-clause-known
+returns-clause-known g c m rows t e = c.line.ensures.known m rows e (c.in_ok-page.ensures.there m t)
 
 pub returns-clause-cause : goal.returns-clause-cause
 returns-clause-cause g c =

@@ -7,8 +7,8 @@ use Rattle.heap_am.proofs.Faults.{cause_any, no_chain}
 use Rattle.heap_am.proofs.Changed.{one_removed, heap_chain, row_bytes_are}
 use Rattle.heap_am.proofs.heap.Heap.take_row.Goals as goal
 
-pub returns-clause-told : goal.returns-clause-told
-returns-clause-told g c m rows t e =
+pub returns-clause-known : goal.returns-clause-known
+returns-clause-known g c m rows t e =
     let file = c.args.self.now.file in
     let some = c.args.self.now.pages in
     let b = row_bytes_are c.items-2.result.now c.in_ok-bytes.bytes c.items.result.now c.args.self.now.file.domains c.args.row.now c.items-2.ensures c.items.ensures c.in_ok-bytes.ensures in

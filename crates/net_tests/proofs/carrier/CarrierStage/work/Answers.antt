@@ -1,6 +1,6 @@
 use Rattle.std.proofs.Common.{Err, refl}
 use Rattle.net_core.proofs.Faulty.{reads_nothing, within_apart}
-use Rattle.net_core.specs.Told.{outside}
+use Rattle.net_core.specs.Known.{outside}
 use Rattle.net_tests.proofs.Carrying.{cause_err, changed, counts_err, crash_any, durable_ok, failed_err, holds_it, inside_err, never_unlawful, quiet_any, spares_err, works_ok}
 use Rattle.net_tests.proofs.carrier.CarrierStage.work.Goals as goal
 

@@ -8,16 +8,16 @@ use Rattle.session_run.proofs.Orders.{not_included, included_now, no_more_to_com
 use Rattle.session_run.proofs.session.Session.open.Goals as goal
 
 pub returns-then-not-may_include-clause-did : goal.returns-then-not-may_include-clause-did
-returns-then-not-may_include-clause-did g c = λ told k kept.
-    let here : IsKept _ told k = subst (λ (r : Running). IsKept r told k) (sym c.self.view_is) kept in
+returns-then-not-may_include-clause-did g c = λ known k kept.
+    let here : IsKept _ known k = subst (λ (r : Running). IsKept r known k) (sym c.self.view_is) kept in
     let size : length c.args.bytes.items ≡ c.len.result = search rules in
     let no : may_include c.len.result c.self.inside.included c.count.result ≡ false = search rules in
     let may = same_limits false c.len.result (length c.args.bytes.items) c.self.inside.included k.included c.count.result (length c.args.self.now.files) size here.included (sym (c.count.ensures ∙ ap (λ (r : Running). length r.files) c.self.view_is)) no in
     on_ok c.refuse.result (λ e. (k, kept, not_included _ k c.args.bytes.items c.args.self.now.files _ _ may e)) c.refuse.ensures.added
 
 pub returns-clause-did : goal.returns-clause-did
-returns-clause-did g c = λ told k kept.
-    let here : IsKept _ told k = subst (λ (r : Running). IsKept r told k) (sym c.self.view_is) kept in
+returns-clause-did g c = λ known k kept.
+    let here : IsKept _ known k = subst (λ (r : Running). IsKept r known k) (sym c.self.view_is) kept in
     let size : length c.args.bytes.items ≡ c.len.result = search rules in
     let yes : may_include c.len.result c.self.inside.included c.count.result ≡ true = search rules in
     let may = same_limits true c.len.result (length c.args.bytes.items) c.self.inside.included k.included c.count.result (length c.args.self.now.files) size here.included (sym (c.count.ensures ∙ ap (λ (r : Running). length r.files) c.self.view_is)) yes in

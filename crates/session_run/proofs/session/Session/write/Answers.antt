@@ -15,4 +15,4 @@ returns-clause-did g c = λ k kept.
     let some : length c.args.name.now ≡ 0 → ⊥ = λ e. search rules in
     on_ok c.store.result
     (λ e. (_, written_kept c.args.self.now _ _ k c.args.name.now kept (e ∙ ap (λ x. Some (stored k.state.shelf c.args.name.now x)) (c.text.ensures ∙ ap (λ (r : Running). r.buffer.text) c.self.view_is)), written _ k c.args.name.now _ _ some))
-    (c.store.ensures.file k.state.shelf kept.stands.told_so)
+    (c.store.ensures.file k.state.shelf kept.stands.known_so)

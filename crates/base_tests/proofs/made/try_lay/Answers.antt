@@ -1,5 +1,0 @@
-use Rattle.std.proofs.Common.{◌∙◌, sym}
-use Rattle.base_tests.proofs.made.try_lay.Goals as goal
-
-pub apply-requires : goal.apply-requires
-apply-requires g c = λ db e. (c.in_ok-fit.ensures.told db (sym c.in_ok-fit.ensures.kept ∙ e)).0 c.if-fit.true

@@ -1,5 +1,0 @@
-use Rattle.catalog_laws.proofs.Changes.{takes_changes}
-use Rattle.catalog_laws.proofs.changing.a_part_takes_changes.Goals as goal
-
-pub returns : goal.returns
-returns c = takes_changes

@@ -1,5 +1,0 @@
-use Rattle.catalog_laws.proofs.RowsCome.{takes_rows}
-use Rattle.catalog_laws.proofs.changing.a_part_takes_rows.Goals as goal
-
-pub returns : goal.returns
-returns c = takes_rows

@@ -1,9 +1,0 @@
-use Rattle.std.proofs.Common.{subst, [], ◌∷◌, OnOk}
-use Rattle.calculus.specs.declared.schema.RelInfo.{RelInfo}
-use Rattle.catalog_moves.specs.Moves.{AreRows, entry_with}
-use Rattle.catalog_moves.proofs.changing.put_modified.Goals as goal
-
-pub returns-clause-rows : goal.returns-clause-rows
-returns-clause-rows c none r at =
-    subst (λ (i : RelInfo). OnOk c.put_only.result (AreRows (record { entries = entry_with c.args.file 0 1 c.args.used i ∷ []; columns = []; parts = [] }) c.put_only.new.rows))
-    (λ i. record { key = (c.in_ok-info.ensures.told r at i).key; spec = c.args.to; attrs = (c.in_ok-info.ensures.told r at i).attrs; keys = c.in_ok-keys.ensures i }) (c.put_only.ensures none)

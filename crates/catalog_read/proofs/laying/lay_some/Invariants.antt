@@ -1,7 +1,0 @@
-use Rattle.std.proofs.Common.{◌≡◌}
-use Rattle.plain_base.specs.Shown.{database_of}
-use Rattle.catalog_read.specs.Laying.{round, behind}
-use Rattle.catalog_read.proofs.laying.lay_some.Given as goal
-
-abbrev pub invariant-round : goal.invariant-round
-invariant-round l = behind l.left.items (round (database_of l.plain) l.change-iterator.rest.items) ≡ round (database_of l.fn.plain) l.fn.changes.items

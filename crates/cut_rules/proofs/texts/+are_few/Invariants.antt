@@ -1,5 +1,0 @@
-use Rattle.std.proofs.Common.{length}
-use Rattle.cut_rules.proofs.texts.+are_few.Given as goal
-
-abbrev pub decreases-are_few : goal.decreases-are_few
-decreases-are_few l = length l.texts.now

@@ -1,9 +1,0 @@
-use Rattle.std.proofs.Common.{◌∙◌, ap, map}
-use Rattle.calculus.specs.Stored.{attrs_in}
-use Rattle.quel_refusals.proofs.Entries.{kinds_known}
-use Rattle.quel_refusals.proofs.kinds.kinds_at.Goals as goal
-
-pub returns-clause-told : goal.returns-clause-told
-returns-clause-told g c = λ db h.
-    c.in_ok-kinds.ensures ∙ ap (λ o. map (λ a. a.kind) (attrs_in o)) (c.in_ok-info.ensures.told db h)
-    ∙ kinds_known db (g.B.Base.lawful c.args.base.now db h) c.args.key.now

@@ -1,8 +1,0 @@
-use Rattle.calculus.specs.Who.{asks}
-use Rattle.view_expand.proofs.row_cut.condition_anew.Goals as goal
-
-pub returns-in-Ok-clause-found : goal.returns-in-Ok-clause-found
-returns-in-Ok-clause-found g c = λ db h. c.keep_permits-kept.ensures.found db (asks c.args.user.now) (c.requires.found db h) (c.in_ok-permits.ensures.told db (g.B.Base.own c.args.base.now db h))
-
-pub returns-in-Err-clause-found : goal.returns-in-Err-clause-found
-returns-in-Err-clause-found g c = λ db h. c.keep_permits-kept.ensures.found db (asks c.args.user.now) (c.requires.found db h) (c.in_ok-permits.ensures.told db (g.B.Base.own c.args.base.now db h))
