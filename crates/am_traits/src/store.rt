@@ -10,7 +10,7 @@ use disk_model::{Addr, Page};
 
 /// A map of pages. What it holds may be known or not.
 ///
-/// It keeps the page that it gave last, so asking for that page again reads nothing.
+/// It keeps the page that it gave or put last, so asking for that page again reads nothing.
 pub trait PageStore {
     ghost use Rattle.disk_model.specs.declared.disk.Addr.{Addr as At};
 
@@ -23,7 +23,7 @@ pub trait PageStore {
     /// How often a page was read from the disk below.
     ghost reads: { Self → ℕ };
 
-    /// The address of the page that it gave last and keeps.
+    /// The address of the page that it gave or put last and keeps.
     ghost last: { Self → Option At };
 
     /// It came of that store by calls of this trait alone.
@@ -50,10 +50,12 @@ pub trait PageStore {
         ensures only_read { (s : Self) → only_read s self.old → only_read s self.new }
         ensures cause { HasStoreCause (faults self.old) (faults self.new) result };
 
-    /// Puts a page in its place. After an error nothing is known of the pages.
+    /// Puts a page in its place, and keeps it; no page is read. After an error nothing is known of the pages.
     fn put(&mut self, a: Addr, page: &Page) -> Result<(), StoreFault>
         requires { 5 ≤ a.file }
         ensures page { (m : Image) → pages self.old ≡ Some m → OnOk result (pages self.new ≡ Some (with_page a page.now m)) }
+        ensures reads { reads self.new ≡ reads self.old }
+        ensures last { OnOk result (last self.new ≡ Some a) }
         ensures came { (s : Self) → came s self.old → came s self.new }
         ensures cause { HasStoreCause (faults self.old) (faults self.new) result };
 }

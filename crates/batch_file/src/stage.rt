@@ -78,6 +78,7 @@ impl Batch {
             (SameOutside (D.seen disk.old) (D.touched disk.old)) }
         ensures made { OnOk result (CameSo (D.history disk.old) (D.history disk.new)
             (Adds self.old self.new ((a, page.now) ∷ []))) }
+        ensures reads { D.reads disk.new ≡ D.reads disk.old }
         ensures cause { HasCause (D.faults disk.old) (D.faults disk.new) result }
     {
         let k = self.count;
@@ -107,6 +108,7 @@ impl Batch {
             (SameOutside (D.seen disk.old) (D.touched disk.old)) }
         ensures made { OnOk result
             (Came (D.history disk.old) (D.history disk.new) (AWrite (addr 4 i) page.now ∷ [])) }
+        ensures reads { D.reads disk.new ≡ D.reads disk.old }
         ensures cause { HasCause (D.faults disk.old) (D.faults disk.new) result }
     {
         disk.write(Addr { file: 4, page: i }, page)?;
@@ -179,6 +181,7 @@ fn write_if<D: Disk>(disk: &mut D, due: bool, n: u32, addresses: &Page) -> Resul
         Elapses D.seen D.touched D.clock D.left_since disk.old disk.new }
     ensures made { OnOk result (Came (D.history disk.old) (D.history disk.new)
         (if due then AWrite (addr 3 n) addresses.now ∷ [] else [])) }
+    ensures reads { D.reads disk.new ≡ D.reads disk.old }
     ensures cause { HasCause (D.faults disk.old) (D.faults disk.new) result }
 {
     if !due {

@@ -51,6 +51,7 @@ pub(crate) fn stage<D: Disk>(
     ensures change { IsTrue D.is_known → Changes InBatch D.seen D.touched disk.old disk.new }
     ensures crash { IsTrue D.is_known → LeavesOnly D.clock D.left_since disk.old disk.new
         (SameOutside (D.seen disk.old) (D.touched disk.old)) }
+    ensures reads { D.reads disk.new ≡ D.reads disk.old }
     ensures cause { HasStoreCause (D.faults disk.old) (D.faults disk.new) result }
 {
     match number_for(numbers, a) {
@@ -84,6 +85,7 @@ fn renew<D: Disk>(
     ensures change { IsTrue D.is_known → Changes InBatch D.seen D.touched disk.old disk.new }
     ensures crash { IsTrue D.is_known → LeavesOnly D.clock D.left_since disk.old disk.new
         (SameOutside (D.seen disk.old) (D.touched disk.old)) }
+    ensures reads { D.reads disk.new ≡ D.reads disk.old }
     ensures cause { HasStoreCause (D.faults disk.old) (D.faults disk.new) result }
 {
     match batch.renew(disk, i, page) {
@@ -115,6 +117,7 @@ fn add<D: Disk>(
     ensures change { IsTrue D.is_known → Changes InBatch D.seen D.touched disk.old disk.new }
     ensures crash { IsTrue D.is_known → LeavesOnly D.clock D.left_since disk.old disk.new
         (SameOutside (D.seen disk.old) (D.touched disk.old)) }
+    ensures reads { D.reads disk.new ≡ D.reads disk.old }
     ensures cause { HasStoreCause (D.faults disk.old) (D.faults disk.new) result }
 {
     let k = batch.count();

@@ -12,6 +12,7 @@ ghost use Rattle.catalog_rows.specs.Shown.{entry_in, is_in_order, key_at};
 
 use crate::adding::{add_name, add_number};
 use crate::places::{name_in, number_at};
+use calculus::limits::MOST_KEYS;
 use calculus::{List, OutOfMemory, RelKey, Spec};
 use std::alloc::Global;
 
@@ -20,9 +21,6 @@ const ENTRY_BYTES: usize = 52;
 
 /// The first file that may be an entry's own.
 const FIRST_FILE: u32 = 16;
-
-/// The key attributes that an entry has at most.
-const MOST_KEYS: usize = 6;
 
 /// A relation, a view or an index, as its row says.
 #[derive(Drop)]

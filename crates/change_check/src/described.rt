@@ -8,18 +8,10 @@ ghost use Rattle.calculus.specs.Name.{is_name};
 ghost use Rattle.calculus.specs.declared.query.RelKey.{RelKey as Key};
 ghost use Rattle.quel_meaning.specs.Causes.{repeats};
 
+use calculus::limits::{MOST_ATTRIBUTES, MOST_KEYS, MOST_ROW_BYTES};
 use calculus::{Attr, Domain, Kind, Name, OutOfMemory, RelInfo, Spec, is_name};
 use quel_refusals::{kind_bytes, repeats};
 use std::alloc::Global;
-
-/// The attributes that a relation or a view has at most.
-const MOST_ATTRIBUTES: usize = 49;
-
-/// The bytes that a row has at most.
-const MOST_ROW_BYTES: u32 = 1000;
-
-/// The key attributes that a structure or an index has at most.
-const MOST_KEYS: usize = 6;
 
 fn is_domain(domain: Domain) -> bool
     ensures { result ≡ is_domain domain }

@@ -17,6 +17,7 @@ ghost use Rattle.change_laws.specs.Fit.{number_is_free, permit_is_fit, rule_is_f
 use crate::keys::is_relation;
 use crate::numbers::has_number;
 use base_trait::{Base, BaseFault};
+use calculus::limits::{MOST_NUMBERED, MOST_SIZE, MOST_TREE_LEVELS};
 use calculus::{Kind, Name, OutOfMemory, Permit, QQual, RelKey, Rule, is_name, kinds_fit};
 use ovqp::kinds_at;
 use quel_refusals::{existing_permits, existing_rules};
@@ -24,14 +25,8 @@ use std::alloc::Global;
 use update_laws::qual_is_spelled;
 use view_sizes::{qual_depth, qual_size};
 
-/// The permits, and the rules, that a relation has at most.
-const MOST: usize = 100;
-
-/// The size of a qualification that is stored at most.
-const GREATEST_SIZE: u64 = 1000;
-
 /// The levels of a tree that is stored at most.
-const MOST_LEVELS: u64 = 3000;
+const MOST_LEVELS: u64 = MOST_TREE_LEVELS as u64;
 
 /// The attributes that a permit lists at most.
 const MOST_LISTED: usize = 65_535;
@@ -84,7 +79,7 @@ fn row_qual_fits(alloc: Global, kinds: Vec<Kind>, qual: &QQual) -> Result<bool, 
 fn is_small(qual: &QQual) -> bool
     ensures { result ≡ (nat_le (qual_size [] qual.now) 1000 && nat_le (qual_depth qual.now) 3000) }
 {
-    qual_size(&[], qual) <= GREATEST_SIZE && qual_depth(qual) <= MOST_LEVELS
+    qual_size(&[], qual) <= MOST_SIZE && qual_depth(qual) <= MOST_LEVELS
 }
 
 /// Whether a qualification in which no aggregate stands can be stored: it is small enough, and its
@@ -152,7 +147,7 @@ fn is_said_well(permit: &Permit) -> bool
 fn number_is_free(numbers: &[u32], number: u32) -> bool
     ensures { result ≡ number_is_free 100 numbers.now number }
 {
-    !has_number(numbers, number) && numbers.len() < MOST
+    !has_number(numbers, number) && numbers.len() < MOST_NUMBERED
 }
 
 /// Whether a permit of the relation may have the number.

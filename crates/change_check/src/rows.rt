@@ -15,12 +15,10 @@ ghost use Rattle.change_laws.specs.Fit.{rows_are_fit};
 use crate::attributes::row_fits;
 use crate::keys::relation;
 use base_trait::{Base, BaseFault};
+use calculus::limits::MOST_ROWS;
 use calculus::{Attr, OutOfMemory, RelKey, Row, RowSet};
 use memory::copies;
 use std::alloc::Global;
-
-/// The rows that a relation may have.
-const MOST_ROWS: usize = 100_000;
 
 /// Whether no two of these rows are the same. Costs a sort of copies.
 #[tactic(auto, using(crate::proofs::Differing::differ_where_as_many))]

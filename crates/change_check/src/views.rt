@@ -13,6 +13,9 @@ ghost use Rattle.quel_meaning.specs.Passing.{is_too_high};
 use crate::described::{attrs_stand, valid_view_info};
 use crate::keys::key_is_free;
 use base_trait::{Base, BaseFault};
+use calculus::limits::{
+    MOST_EXPANDED_VARIABLES, MOST_LEVEL, MOST_SIZE, MOST_TREE_LEVELS, MOST_VARIABLES,
+};
 use calculus::{Attr, OutOfMemory, Query, RelInfo, Target, kinds_fit};
 use quel_refusals::{same_kind, targets_fit, var_kinds};
 use std::alloc::Global;
@@ -20,22 +23,16 @@ use update_laws::query_is_spelled;
 use view_sizes::{Measure, are_ranges, has_high_level, measure_of, query_depth, used_count};
 
 /// The variables of a query as it stands at most.
-const MOST_VARIABLES: u64 = 10;
+const MOST_USED: u64 = MOST_VARIABLES as u64;
 
 /// The variables of a query once the views in it are expanded, at most.
-const MOST_EXPANDED_VARIABLES: u64 = 50;
+const MOST_EXPANDED: u64 = MOST_EXPANDED_VARIABLES as u64;
 
 /// The variables that a query lists at most.
 const MOST_LISTED: usize = 50;
 
-/// The size of a view at most.
-const GREATEST_SIZE: u64 = 1000;
-
-/// The levels of views that are looked through at most.
-const GREATEST_LEVEL: u8 = 16;
-
 /// The levels of a tree that is stored at most.
-const MOST_LEVELS: u64 = 3000;
+const MOST_LEVELS: u64 = MOST_TREE_LEVELS as u64;
 
 /// Whether the attributes have the names and kinds of the targets, one by one.
 fn attrs_are_targets(attrs: &[Attr], targets: &[Target]) -> bool
@@ -93,14 +90,14 @@ fn lists_few(query: &Query) -> bool
 fn uses_few(query: &Query) -> bool
     ensures { length (vars_of query.now) ≤ 256 → query_aggregates query.now ≡ [] → result ≡ nat_le (variables query.now) 10 }
 {
-    used_count(query) <= MOST_VARIABLES
+    used_count(query) <= MOST_USED
 }
 
 /// Whether variables and size are within the limits of a view.
 fn is_within(measure: &Measure) -> bool
     ensures { result ≡ (nat_le measure.now.variables 50 && nat_le (min (sum measure.now.attrs.items + measure.now.qual) (2 ^ 64 - 1)) 1000) }
 {
-    measure.variables <= MOST_EXPANDED_VARIABLES && measure.size() <= GREATEST_SIZE
+    measure.variables <= MOST_EXPANDED && measure.size() <= MOST_SIZE
 }
 
 /// Whether a query without aggregates is within the limits of a view once the views in it are expanded.
@@ -111,7 +108,7 @@ fn measure_fits<B: Base>(alloc: Global, base: &mut B, query: &Query) -> Result<b
     ensures asked { (b : B) → B.asked b base.old → B.asked b base.new }
     ensures cause { HasCause (B.database base.old) (B.faults base.old) (B.faults base.new) result }
 {
-    let measure = measure_of(alloc, base, query, GREATEST_LEVEL)?;
+    let measure = measure_of(alloc, base, query, MOST_LEVEL)?;
     Ok(is_within(&measure))
 }
 

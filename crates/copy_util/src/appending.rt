@@ -14,11 +14,9 @@ ghost use Rattle.copy_util.specs.Causes.{Copies, HasBaseCause};
 use crate::CopyFault;
 use crate::rule_keeping::kept_rows;
 use base_trait::{Base, BaseFault};
+use calculus::limits::MOST_ROWS;
 use calculus::{DbChange, List, OutOfMemory, RelKey, Row, RowSet, TryCopy};
 use std::alloc::Global;
-
-/// The rows that a relation may have.
-const MOST_ROWS: usize = 100_000;
 
 /// The row behind the others, where this is so.
 fn put_if(rows: &mut Vec<Row>, row: Row, is_so: bool) -> Result<(), OutOfMemory>

@@ -18,14 +18,12 @@ use crate::file_name::file_of_constant;
 use crate::forms::are_readable;
 use crate::rows_read::read_rows;
 use base_trait::{Base, BaseFault};
+use calculus::limits::MOST_FILE_BYTES;
 use calculus::{CopyCol, DbChange, Kind, Name, OutOfMemory, RelKey, Row, Utility};
 use fault_io::{Shelf, ShelfFault};
 use ovqp::kinds_at;
 use std::alloc::Global;
 use utilities::owner_refusal;
-
-/// The bytes of a file that is copied from.
-const MOST_FILE_BYTES: usize = 4_294_967_295;
 
 /// The file, where it is there and not too long.
 fn short_file(file: Option<Vec<u8>>) -> Result<Vec<u8>, CopyFault>

@@ -3,12 +3,10 @@
 ghost use Rattle.std.specs.Prelude.{◌≡◌, ◌++◌, ◌==◌, OnOk, IfOk, option_map, find, unwrap_or, decimal, List, [], ℕ, map};
 ghost use Rattle.quel_meaning.specs.Printed.{refusal_text, refusal_texts, refusal_bytes};
 
+use calculus::refusals::BAD_ROW;
 use calculus::{OutOfMemory, Refusal};
 use itoa::Buffer;
 use std::alloc::{AllocError, Global};
-
-/// The number of the refusal that names a row.
-const BAD_ROW: u8 = 31;
 
 /// What each number of a refusal says, but for that which names a row.
 const TEXTS: [(u8, &[u8]); 25] = [

@@ -211,3 +211,11 @@ all_there gone going first rest went enough differ once =
 pub all_stay : (rows : Lying) → staying [] rows ≡ rows
 all_stay [] = refl
 all_stay (r ∷ rows) = ap (λ l. r ∷ l) (all_stay rows)
+
+-- where all that are to go are among the first rows, no fewer went from these and others
+pub less_go : (gone : ℕ) (going : List (List ℕ)) (first rest : Lying) → gone + length (staying going (first ++ rest)) ≡ length (first ++ rest) → gone < length going
+    → count (λ r. is_among going r.1) first ≡ length going → ⊥
+less_go gone going first rest went less all =
+    let here = gone_count gone going (first ++ rest) went in
+    let sum = ap length (filter-append (λ r. is_among going r.1) first rest) ∙ length-append (filter (λ r. is_among going r.1) first) (filter (λ r. is_among going r.1) rest) in
+    omega (arith, here, sum, less, all)

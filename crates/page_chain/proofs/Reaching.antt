@@ -4,7 +4,7 @@ use Rattle.std.proofs.lemmas.Bool.{eqb-true, eq-eqb}
 use Rattle.std.proofs.lemmas.List.{append-nil, length-append}
 use Rattle.std.proofs.lemmas.List.Elements.{filter-append}
 use Rattle.std.specs.List.{AllByRecursion, list_all}
-use Rattle.disk_model.specs.Disk.{Image}
+use Rattle.disk_model.specs.Disk.{Image, RisesUpTo}
 use Rattle.disk_model.specs.declared.disk.Addr.{Addr}
 use Rattle.am_traits.specs.Pages.{SameElsewhere}
 use Rattle.page_chain.specs.Chains.{IsChain, starts, is_on, NoChainTo}
@@ -14,7 +14,7 @@ use Rattle.page_chain.specs.Passing.{OffChain, Changed, PageRenewed, Passed}
 use Rattle.page_chain.specs.Renewed.{AllLie}
 use Rattle.page_chain.proofs.Beside.{came_beside}
 use Rattle.page_chain.proofs.Coming.{came_none}
-use Rattle.page_chain.proofs.Counting.{NoneLeft, none_left, all_go, all_there, gone_count}
+use Rattle.page_chain.proofs.Counting.{NoneLeft, none_left, all_go, all_there, gone_count, less_go}
 use Rattle.page_chain.proofs.Slots.{lying_join, lying_one, lying_same}
 use Rattle.page_chain.proofs.Linking.{follows_up}
 use Rattle.page_chain.proofs.Along.{chain_rest, chain_ends, chain_goes, chain_rises, chain_before, none_off}
@@ -50,27 +50,28 @@ first_both m n xs back is = ap (λ rest. take m xs ++ take n rest) is ∙ go m n
 
 -- ---- a chain as far as it was gone along
 
--- The first numbers of a chain are done, and this one comes next.
-pub record Walked (going coming : List (List ℕ)) (gone next : ℕ) (before now : Pages) (numbers : List ℕ) : Type 0 where
+-- The first numbers of a chain are done, at most a page read for each, and this one comes next.
+pub record Walked (going coming : List (List ℕ)) (gone next : ℕ) (before now : Pages) (was read : ℕ) (numbers : List ℕ) : Type 0 where
   pub done : List ℕ
   pub rest : List ℕ
   pub are : numbers ≡ done ++ next ∷ rest
   pub changed : Changed going coming gone (lying before done) (lying now done)
+  pub few : RisesUpTo (length done) was read
 
 -- The pages before one are done.
-pub record Reached (file bound number : ℕ) (going coming : List (List ℕ)) (gone : ℕ) (before : Image) (known : Option Image) : Type 0 where
+pub record Reached (file bound number : ℕ) (going coming : List (List ℕ)) (gone : ℕ) (before : Image) (known : Option Image) (was read : ℕ) : Type 0 where
   pub image : Image
   pub still_known : known ≡ Some image
   pub elsewhere : SameElsewhere file before image
   pub links : (k : ℕ) → next_of bound k (image (page_at file k)) ≡ next_of bound k (before (page_at file k))
   pub ahead : (k : ℕ) → number ≤ k → image (page_at file k) ≡ before (page_at file k)
   pub walked : (numbers : List ℕ) → starts numbers ≡ true → IsChain bound (pages_of before file) numbers
-      → Walked going coming gone number (pages_of before file) (pages_of image file) numbers
+      → Walked going coming gone number (pages_of before file) (pages_of image file) was read numbers
 
 -- before the first page nothing is done
-pub reached_start : (file bound : ℕ) (going : List (List ℕ)) (before : Image) (known : Option Image) → known ≡ Some before → Reached file bound 0 going [] 0 before known
+pub reached_start : (file bound : ℕ) (going : List (List ℕ)) (before : Image) (known : Option Image) (was : ℕ) → known ≡ Some before → Reached file bound 0 going [] 0 before known was was
 unfolding lying
-reached_start file bound going before known is = record {
+reached_start file bound going before known was is = record {
   image = before;
   still_known = is;
   elsewhere = λ b other. refl;
@@ -79,13 +80,14 @@ reached_start file bound going before known is = record {
   walked = λ numbers first chain. first_of numbers first;
 }
   where
-    first_of : (numbers : List ℕ) → starts numbers ≡ true → Walked going [] 0 0 (pages_of before file) (pages_of before file) numbers
+    first_of : (numbers : List ℕ) → starts numbers ≡ true → Walked going [] 0 0 (pages_of before file) (pages_of before file) was was numbers
     first_of [] first = absurd (cc first)
     first_of (n ∷ numbers) first = record {
       done = [];
       rest = numbers;
       are = ap (λ k. k ∷ numbers) (eqb-true n 0 first);
       changed = changed_nothing going [] refl;
+      few = record { later = omega arith; at_most = omega arith };
     }
 
 pub one_or_other : (k n : ℕ) → (k ≡ n) ⊎ (k ≡ n → ⊥)
@@ -95,9 +97,16 @@ one_or_other k n = go (k == n) refl
     go true e = inl (eqb-true k n e)
     go false e = inr (λ same. absurd (cc (sym e ∙ eq-eqb k n same)))
 
-module _ (file bound number : ℕ) (going first later : List (List ℕ)) (gone more next : ℕ) (before : Image) (between known : Option Image)
-    (so_far : Reached file bound number going first gone before between)
-    (here : PageRenewed file bound number going later more next so_far.image known) where
+-- a page more was read
+one_more : (done : List ℕ) (number : ℕ) → {was read now : ℕ} → RisesUpTo (length done) was read → RisesUpTo 1 read now → RisesUpTo (length (done ++ number ∷ [])) was now
+one_more done number few one = let both = length-append done (number ∷ []) in record {
+  later = omega (arith, few.later, one.later);
+  at_most = omega (arith, few.at_most, one.at_most, both);
+}
+
+module _ (file bound number : ℕ) (going first later : List (List ℕ)) (gone more next : ℕ) (before : Image) (between known : Option Image) (was read now : ℕ)
+    (so_far : Reached file bound number going first gone before between was read)
+    (here : PageRenewed file bound number going later more next so_far.image known) (one : RisesUpTo 1 read now) where
   old : Pages
   old = pages_of before file
 
@@ -147,6 +156,7 @@ module _ (file bound number : ℕ) (going first later : List (List ℕ)) (gone m
     pub are : numbers ≡ done ++ number ∷ rest
     pub chain : IsChain bound (pages_of before file) (number ∷ rest)
     pub changed : Changed going (first ++ later) (gone + more) (lying (pages_of before file) (done ++ number ∷ [])) (lying (pages_of here.image file) (done ++ number ∷ []))
+    pub few : RisesUpTo (length (done ++ number ∷ [])) was now
 
   walk : (numbers : List ℕ) → starts numbers ≡ true → IsChain bound (pages_of before file) numbers → WalkedOn numbers
   walk numbers first_is is =
@@ -158,6 +168,7 @@ module _ (file bound number : ℕ) (going first later : List (List ℕ)) (gone m
         are = came_to.are;
         chain = chain_rest bound (pages_of before file) came_to.done number came_to.rest whole;
         changed = page_done came_to.done (chain_before bound (pages_of before file) came_to.done number came_to.rest whole) came_to.changed;
+        few = one_more came_to.done number came_to.few one;
       }
 
   goes_on_at_first : next_of bound number (before (page_at file number)) ≡ Some next
@@ -167,7 +178,7 @@ module _ (file bound number : ℕ) (going first later : List (List ℕ)) (gone m
   joined done n rest = sym (append_assoc done (n ∷ []) rest)
 
   -- where the chain goes on the next page is reached
-  pub reached_next : 0 < next → Reached file bound next going (first ++ later) (gone + more) before known
+  pub reached_next : 0 < next → Reached file bound next going (first ++ later) (gone + more) before known was now
   reached_next some = record {
     image = here.image;
     still_known = here.still_known;
@@ -181,6 +192,7 @@ module _ (file bound number : ℕ) (going first later : List (List ℕ)) (gone m
           rest = goes.0;
           are = its.are ∙ ap (λ rest. its.done ++ number ∷ rest) goes.1 ∙ joined its.done number (next ∷ goes.0);
           changed = its.changed;
+          few = its.few;
         };
   }
 
@@ -268,9 +280,9 @@ pub at_page : (file page : ℕ) (a : Addr) → a.file ≡ file → a.page ≡ pa
 at_page file page a of_file of_page = λ i. record { file = of_file i; page = of_page i }
 
 -- a page that is reached and isn't one of a chain that ends as it must shows that there is none
-pub off_reached : (file bound number last : ℕ) (going coming : List (List ℕ)) (gone : ℕ) (before : Image) (known : Option Image)
-    (so_far : Reached file bound number going coming gone before known) (a : Addr) → OffChain file number bound last so_far.image a → NoChainTo file bound last before a
-off_reached file bound number last going coming gone before known so_far a its = record {
+pub off_reached : (file bound number last : ℕ) (going coming : List (List ℕ)) (gone : ℕ) (before : Image) (known : Option Image) (was read : ℕ)
+    (so_far : Reached file bound number going coming gone before known was read) (a : Addr) → OffChain file number bound last so_far.image a → NoChainTo file bound last before a
+off_reached file bound number last going coming gone before known was read so_far a its = record {
   of_file = its.of_file;
   off = subst (λ page. is_on bound last page (before a) ≡ false) (sym its.of_page) here;
   none = λ earlier first is. let walked = so_far.walked (earlier ++ last ∷ []) first is in
@@ -284,3 +296,43 @@ off_reached file bound number last going coming gone before known so_far a its =
         subst (λ b. is_on bound last number (before b) ≡ false) (sym (at_page file number a its.of_file its.of_page))
         (subst (λ p. is_on bound last number p ≡ false) (so_far.ahead number (omega arith))
         (subst (λ b. is_on bound last number (so_far.image b) ≡ false) (at_page file number a its.of_file its.of_page) its.off))
+
+-- ---- page reads
+
+-- the first items of a list that is cut in two in another way are items of its first part
+behind : (first rest done : List ℕ) (n : ℕ) (tail : List ℕ) → first ++ rest ≡ done ++ n ∷ tail → length first ≤ length done → (more : List ℕ) × (done ≡ first ++ more)
+behind [] rest done n tail same le = (done, refl)
+behind (k ∷ first) rest [] n tail same le = absurd (omega (arith, le))
+behind (k ∷ first) rest (j ∷ done) n tail same le =
+    let its = behind first rest done n tail (ap (drop 1) same) (omega (arith, le)) in
+    let head : j ≡ k = sym (cc same) in
+    (its.0, ap (λ i. i ∷ done) head ∙ ap (λ ks. k ∷ ks) its.1)
+
+-- where fewer went than are to go, not all of those on which these lie are done
+left_to_read : (pages now : Pages) (going coming : List (List ℕ)) (gone : ℕ) (first done : List ℕ) → Changed going coming gone (lying pages done) (lying now done)
+    → AllLie pages first going → gone < length going → ((more : List ℕ) × (done ≡ first ++ more)) → ⊥
+left_to_read pages now going coming gone first done changed lie less its =
+    less_go gone going (lying pages first) (lying pages its.0)
+    (subst (λ rows. gone + length (staying going rows) ≡ length rows) (ap (lying pages) its.1 ∙ lying_join pages first its.0) changed.went)
+    less (all_go pages first going lie)
+
+module _ (file bound number : ℕ) (going coming : List (List ℕ)) (gone : ℕ) (before : Image) (known : Option Image) (was read now : ℕ)
+    (so_far : Reached file bound number going coming gone before known was read) (one : RisesUpTo 1 read now) where
+  -- with the page that comes next at most each page of the chain was read
+  pub reads_chain : (numbers : List ℕ) → starts numbers ≡ true → IsChain bound (pages_of before file) numbers → RisesUpTo (length numbers) was now
+  reads_chain numbers first_is is =
+      let its = so_far.walked numbers first_is is in
+      let both = ap length its.are ∙ length-append its.done (number ∷ its.rest) in
+      record { later = omega (arith, its.few.later, one.later); at_most = omega (arith, its.few.at_most, one.at_most, both) }
+
+  -- and where fewer went than are to go none behind those on which all these lie
+  pub reads_first : (first rest : List ℕ) → starts (first ++ rest) ≡ true → IsChain bound (pages_of before file) (first ++ rest) → AllLie (pages_of before file) first going → gone < length going
+      → RisesUpTo (length first) was now
+  reads_first first rest first_is is lie less =
+      let its = so_far.walked (first ++ rest) first_is is in
+      let left : length its.done < length first = less_or (length its.done) (length first)
+      (λ le. left_to_read (pages_of before file) (pages_of so_far.image file) going coming gone first its.done its.changed lie less (behind first rest its.done number its.rest its.are le)) in
+      record { later = omega (arith, its.few.later, one.later); at_most = omega (arith, its.few.at_most, one.at_most, left) }
+    where
+      less_or : (m n : ℕ) → (n ≤ m → ⊥) → m < n
+      less_or m n not_so = omega (arith, not_so)

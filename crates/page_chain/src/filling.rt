@@ -46,6 +46,7 @@ pub(crate) fn turn_page<S: PageStore>(
     ensures fresh { OnOk result (slots page.new ≡ []) }
     ensures next { OnOk result (next_page page.new ≡ 0) }
     ensures page { OnOk result (IsPage page.new) }
+    ensures reads { S.reads store.new ≡ S.reads store.old }
     ensures came { (s : S) → S.came s store.old → S.came s store.new }
     ensures cause { HasStoreCause (S.faults store.old) (S.faults store.new) result }
 {
@@ -73,6 +74,7 @@ fn write_page<S: PageStore>(
     ensures hand { (first : ℕ) (rows : Rows (Rows ℕ)) (m : Image) → InHand file first at page.old left.now rows m (S.pages store.old)
         → IfOk result (λ n. InHand file first (at + 1) page.new (drop n left.now) rows m (S.pages store.new)) }
     ensures page { OnOk result (IsPage page.new) }
+    ensures reads { S.reads store.new ≡ S.reads store.old }
     ensures came { (s : S) → S.came s store.old → S.came s store.new }
     ensures cause { HasStoreCause (S.faults store.old) (S.faults store.new) result }
 {
@@ -96,6 +98,7 @@ fn write_pages<S: PageStore>(
     ensures behind { IfOk result (λ now. (first ≤ now) × (now ≤ first + length rows.now)) }
     ensures hand { (begin : ℕ) (all : Rows (Rows ℕ)) (m : Image) → InHand file begin first page.old rows.now all m (S.pages store.old)
         → IfOk result (λ now. InHand file begin now page.new [] all m (S.pages store.new)) }
+    ensures reads { S.reads store.new ≡ S.reads store.old }
     ensures came { (s : S) → S.came s store.old → S.came s store.new }
     ensures cause { HasStoreCause (S.faults store.old) (S.faults store.new) result }
 {
@@ -127,6 +130,7 @@ pub(crate) fn write_rows<S: PageStore>(
     ensures behind { IfOk result (λ now. (first ≤ now) × (now ≤ first + length rows.now)) }
     ensures laid { (m : Image) → S.pages store.old ≡ Some m → IfOk result (λ now.
         KnownLaid file first now rows.now (with_page (page_at file first) page.old m) (S.pages store.new)) }
+    ensures reads { S.reads store.new ≡ S.reads store.old }
     ensures came { (s : S) → S.came s store.old → S.came s store.new }
     ensures cause { HasStoreCause (S.faults store.old) (S.faults store.new) result }
 {

@@ -2,7 +2,7 @@
 
 ghost use Rattle.std.specs.Prelude.{◌≡◌, ◌+◌, ◌-◌, ◌^◌, ◌<◌, ◌≤◌, ℕ, List, [], ◌∷◌, ◌++◌, Some, All, IfOk, OnOk, length};
 ghost use Rattle.calculus.specs.declared.probe.Place.{Place as At};
-ghost use Rattle.disk_model.specs.Disk.{Image};
+ghost use Rattle.disk_model.specs.Disk.{Image, RisesUpTo};
 ghost use Rattle.am_traits.specs.Causes.{HasFileCause, HasStoreCause};
 ghost use Rattle.am_traits.specs.Pages.{KeepsOthers, with_page};
 ghost use Rattle.page_cells.specs.Page.{IsPage, next_page};
@@ -36,6 +36,7 @@ pub fn extend<S: PageStore>(
     ensures grown { (m : Image) → S.pages store.old ≡ Some m → IfOk result (λ now. (bound : ℕ) (earlier : List ℕ) → last < bound
         → IsChain bound (pages_of m file) (earlier ++ last ∷ []) → IsGrown file bound earlier last now rows.now m (S.pages store.new)) }
     ensures others { OnOk result (KeepsOthers file (S.pages store.old) (S.pages store.new)) }
+    ensures reads { RisesUpTo 1 (S.reads store.old) (S.reads store.new) }
     ensures came { (s : S) → S.came s store.old → S.came s store.new }
     ensures cause { HasFileCause (S.pages store.old) (OffPage file last (last + 1)) (S.faults store.old) (S.faults store.new) result }
 {
@@ -61,6 +62,7 @@ fn put_behind<S: PageStore>(
     ensures behind { IfOk result (λ place. (last ≤ place.page) × (place.page ≤ last + 1)) }
     ensures laid { (m : Image) → S.pages store.old ≡ Some m → IfOk result (λ place.
         OneLaid file last place row.now (with_page (page_at file last) page.old m) (S.pages store.new)) }
+    ensures reads { S.reads store.new ≡ S.reads store.old }
     ensures came { (s : S) → S.came s store.old → S.came s store.new }
     ensures cause { HasStoreCause (S.faults store.old) (S.faults store.new) result }
 {
@@ -91,6 +93,7 @@ fn put_at<S: PageStore>(
     ensures behind { IfOk result (λ place. (last ≤ place.page) × (place.page ≤ last + 1)) }
     ensures laid { (m : Image) → S.pages store.old ≡ Some m → IfOk result (λ place.
         OneLaid file last place row.now (with_page (page_at file last) page.old m) (S.pages store.new)) }
+    ensures reads { S.reads store.new ≡ S.reads store.old }
     ensures came { (s : S) → S.came s store.old → S.came s store.new }
     ensures cause { HasStoreCause (S.faults store.old) (S.faults store.new) result }
 {
@@ -119,6 +122,7 @@ pub fn put_one<S: PageStore>(
     ensures place { (m : Image) → S.pages store.old ≡ Some m → IfOk result (λ place. (bound : ℕ) (earlier : List ℕ) → last < bound
         → IsChain bound (pages_of m file) (earlier ++ last ∷ []) → IsOneMore file earlier last place row.now m (S.pages store.new)) }
     ensures others { OnOk result (KeepsOthers file (S.pages store.old) (S.pages store.new)) }
+    ensures reads { RisesUpTo 1 (S.reads store.old) (S.reads store.new) }
     ensures came { (s : S) → S.came s store.old → S.came s store.new }
     ensures cause { HasFileCause (S.pages store.old) (OffPage file last (last + 1)) (S.faults store.old) (S.faults store.new) result }
 {
@@ -137,6 +141,7 @@ pub fn build<S: PageStore>(store: &mut S, file: u32, rows: &[List<u8>]) -> Resul
     ensures some { IfOk result (λ used. (1 ≤ used) × (used ≤ 1 + length rows.now)) }
     ensures built { (m : Image) → S.pages store.old ≡ Some m → IfOk result (λ used. IsBuilt file used rows.now (S.pages store.new)) }
     ensures others { OnOk result (KeepsOthers file (S.pages store.old) (S.pages store.new)) }
+    ensures reads { S.reads store.new ≡ S.reads store.old }
     ensures came { (s : S) → S.came s store.old → S.came s store.new }
     ensures cause { HasFileCause (S.pages store.old) IsNever (S.faults store.old) (S.faults store.new) result }
 {

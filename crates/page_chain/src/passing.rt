@@ -1,13 +1,14 @@
 //! A pass over the pages of a chain in which rows go and others come.
 
-ghost use Rattle.std.specs.Prelude.{◌≡◌, ◌+◌, ◌<◌, ◌≤◌, ◌^◌, Some, All, IfOk, OnOk, length, take};
-ghost use Rattle.disk_model.specs.Disk.{Image};
+ghost use Rattle.std.specs.Prelude.{◌≡◌, ◌+◌, ◌<◌, ◌≤◌, ◌^◌, ℕ, List as Items, ◌++◌, Some, true, All, IfOk, OnOk, length, take};
+ghost use Rattle.disk_model.specs.Disk.{Image, RisesUpTo};
 ghost use Rattle.am_traits.specs.Causes.{HasFileCause};
 ghost use Rattle.page_cells.specs.Page.{IsPage, next_page};
-ghost use Rattle.page_chain.specs.Chains.{NoChainTo};
+ghost use Rattle.page_chain.specs.Chains.{IsChain, NoChainTo, starts};
 ghost use Rattle.page_chain.specs.Lying.{IsShort};
-ghost use Rattle.page_chain.specs.Pages.{page_at, next_of};
+ghost use Rattle.page_chain.specs.Pages.{page_at, pages_of, next_of};
 ghost use Rattle.page_chain.specs.Passing.{OffChain, PageRenewed, Passed};
+ghost use Rattle.page_chain.specs.Renewed.{AllLie};
 
 use crate::chains::chain_page;
 use crate::going::GoingRows;
@@ -30,6 +31,7 @@ fn page_on<S: PageStore>(
     ensures page { OnOk result (IsPage out.new) }
     ensures next { IfOk result (λ next. next ≡ next_page out.new) }
     ensures same { S.pages store.new ≡ S.pages store.old }
+    ensures reads { RisesUpTo 1 (S.reads store.old) (S.reads store.new) }
     ensures came { (s : S) → S.came s store.old → S.came s store.new }
     ensures cause { HasFileCause (S.pages store.old) (OffChain chain.file number chain.bound chain.last) (S.faults store.old) (S.faults store.new) result }
 {
@@ -70,6 +72,7 @@ fn renew_at<S: PageStore>(
     ensures next { IfOk result (λ step. 0 < step.next → (number < step.next) × (step.next < chain.bound)) }
     ensures most { IfOk result (λ step. step.gone ≤ 254) }
     ensures put { IfOk result (λ step. step.put ≤ length coming.now) }
+    ensures reads { RisesUpTo 1 (S.reads store.old) (S.reads store.new) }
     ensures came { (s : S) → S.came s store.old → S.came s store.new }
     ensures cause { HasFileCause (S.pages store.old) (OffChain chain.file number chain.bound chain.last) (S.faults store.old) (S.faults store.new) result }
 {
@@ -114,6 +117,12 @@ pub fn pass<S: PageStore>(
     ensures passed { (m : Image) → S.pages store.old ≡ Some m → IfOk result (λ done.
         Passed chain.file chain.bound going.now (take done.put coming.now) done.gone m (S.pages store.new)) }
     ensures put { IfOk result (λ done. done.put ≤ length coming.now) }
+    // At most each page of the chain is read, and none behind those on which all rows lie that are to go.
+    ensures reads { (m : Image) (numbers : Items ℕ) → S.pages store.old ≡ Some m → starts numbers ≡ true
+        → IsChain chain.bound (pages_of m chain.file) numbers → RisesUpTo (length numbers) (S.reads store.old) (S.reads store.new) }
+    ensures ends { (m : Image) (first rest : Items ℕ) → S.pages store.old ≡ Some m → 0 < length going.now → starts (first ++ rest) ≡ true
+        → IsChain chain.bound (pages_of m chain.file) (first ++ rest) → AllLie (pages_of m chain.file) first going.now
+        → RisesUpTo (length first) (S.reads store.old) (S.reads store.new) }
     ensures came { (s : S) → S.came s store.old → S.came s store.new }
     ensures cause { HasFileCause (S.pages store.old) (NoChainTo chain.file chain.bound chain.last) (S.faults store.old) (S.faults store.new) result }
 {

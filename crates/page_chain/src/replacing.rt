@@ -1,7 +1,7 @@
 //! Rows of a chain go, and others come, in one pass.
 
-ghost use Rattle.std.specs.Prelude.{◌≡◌, ◌+◌, ◌-◌, ◌^◌, ◌<◌, ◌≤◌, ℕ, List, [], ◌∷◌, ◌++◌, Some, true, All, IfOk, OnOk, length, take};
-ghost use Rattle.disk_model.specs.Disk.{Image};
+ghost use Rattle.std.specs.Prelude.{◌≡◌, ◌+◌, ◌-◌, ◌^◌, ◌<◌, ◌≤◌, ◌==◌, if◌then◌else◌, ℕ, List, [], ◌∷◌, ◌++◌, Some, true, All, IfOk, OnOk, length, take};
+ghost use Rattle.disk_model.specs.Disk.{Image, RisesUpTo};
 ghost use Rattle.am_traits.specs.Causes.{HasFileCause};
 ghost use Rattle.am_traits.specs.Pages.{KeepsOthers};
 ghost use Rattle.page_chain.specs.Chains.{IsChain, NoChain, NoChainTo, OffPage, starts};
@@ -57,6 +57,11 @@ fn pass_over<S: PageStore>(
     ensures passed { (m : Image) → S.pages store.old ≡ Some m → IfOk result (λ done.
         Passed chain.file chain.bound going.now (take done.put coming.now) done.gone m (S.pages store.new)) }
     ensures put { IfOk result (λ done. done.put ≤ length coming.now) }
+    ensures reads { (m : Image) (numbers : List ℕ) → S.pages store.old ≡ Some m → starts numbers ≡ true
+        → IsChain chain.bound (pages_of m chain.file) numbers → RisesUpTo (length numbers) (S.reads store.old) (S.reads store.new) }
+    ensures ends { (m : Image) (first rest : List ℕ) → S.pages store.old ≡ Some m → starts (first ++ rest) ≡ true
+        → IsChain chain.bound (pages_of m chain.file) (first ++ rest) → AllLie (pages_of m chain.file) first going.now
+        → RisesUpTo (length first) (S.reads store.old) (S.reads store.new) }
     ensures came { (s : S) → S.came s store.old → S.came s store.new }
     ensures cause { HasFileCause (S.pages store.old) (NoChainTo chain.file chain.bound chain.last) (S.faults store.old) (S.faults store.new) result }
 {
@@ -77,6 +82,8 @@ fn put_rest<S: PageStore>(store: &mut S, chain: Chain, rows: &[List<u8>]) -> Res
     ensures grown { (m : Image) → S.pages store.old ≡ Some m → IfOk result (λ now. (earlier : List ℕ) → chain.last < chain.bound
         → IsChain chain.bound (pages_of m chain.file) (earlier ++ chain.last ∷ []) → IsGrown chain.file chain.bound earlier chain.last now rows.now m (S.pages store.new)) }
     ensures others { OnOk result (KeepsOthers chain.file (S.pages store.old) (S.pages store.new)) }
+    ensures reads { RisesUpTo 1 (S.reads store.old) (S.reads store.new) }
+    ensures none { length rows.now ≡ 0 → S.reads store.new ≡ S.reads store.old }
     ensures came { (s : S) → S.came s store.old → S.came s store.new }
     ensures cause { HasFileCause (S.pages store.old) (OffPage chain.file chain.last (chain.last + 1)) (S.faults store.old) (S.faults store.new) result }
 {
@@ -112,6 +119,13 @@ pub fn replace<S: PageStore>(
         → all_differ (bytes_of (lying (pages_of m chain.file) (earlier ++ chain.last ∷ []))) ≡ true → all_differ going.now ≡ true
         → AllLie (pages_of m chain.file) (earlier ++ chain.last ∷ []) going.now) }
     ensures others { OnOk result (KeepsOthers chain.file (S.pages store.old) (S.pages store.new)) }
+    // At most each page of the chain is read, and the last one once more; where nothing comes, none behind
+    // those on which all rows lie that are to go, and else none of these but the last.
+    ensures reads { (m : Image) (numbers : List ℕ) → S.pages store.old ≡ Some m → starts numbers ≡ true
+        → IsChain chain.bound (pages_of m chain.file) numbers → RisesUpTo (length numbers + 1) (S.reads store.old) (S.reads store.new) }
+    ensures ends { (m : Image) (first rest : List ℕ) → S.pages store.old ≡ Some m → starts (first ++ rest) ≡ true
+        → IsChain chain.bound (pages_of m chain.file) (first ++ rest) → AllLie (pages_of m chain.file) first going.now
+        → RisesUpTo (length first + (if length coming.now == 0 then 0 else 1)) (S.reads store.old) (S.reads store.new) }
     ensures came { (s : S) → S.came s store.old → S.came s store.new }
     ensures cause { HasFileCause (S.pages store.old) (NoChainTo chain.file chain.bound chain.last) (S.faults store.old) (S.faults store.new) result }
 {

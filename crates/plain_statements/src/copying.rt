@@ -13,17 +13,12 @@ ghost use Rattle.plain_statements.specs.Stopping.{copy_answer, IsShortCopy};
 use crate::applying::laid;
 use crate::refusing::refused;
 use base_trait::BaseFault;
+use calculus::refusals::{BAD_ROW, NO_FILE};
 use calculus::{Name, OutOfMemory, Refusal, Reply, Utility};
 use copy_util::{CopyFault, copy_from, copy_into};
 use fault_io::{Shelf, ShelfFault};
 use plain_base::DbPlain;
 use std::alloc::Global;
-
-/// The number of a bad row.
-const BAD_ROW: u8 = 31;
-
-/// The number of a file that isn't there.
-const NO_FILE: u8 = 32;
 
 /// What comes of a copy that isn't made.
 fn copy_answer(fault: CopyFault) -> Result<Reply, ShelfFault>

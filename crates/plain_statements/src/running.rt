@@ -21,14 +21,12 @@ use crate::carrying::{tree_done, without_shelf};
 use crate::refusing::{answer_to, refused, short};
 use crate::trees::tree_of;
 use base_trait::Base;
+use calculus::refusals::NO_RELATION;
 use calculus::{Checked, Name, OutOfMemory, Reply, Statement, TryCopy};
 use fault_io::{Shelf, ShelfFault};
 use plain_base::DbPlain;
 use quel_check::RangeTable;
 use std::alloc::Global;
-
-/// The number of an unknown relation.
-const NO_RELATION: u8 = 10;
 
 /// Declares a range variable over what the user means by a name.
 fn declared(

@@ -4,23 +4,12 @@ ghost use Rattle.std.specs.Prelude.{◌≡◌};
 ghost use Rattle.plain_statements.specs.Stopping.{change_stop, check_stop, pair_stop, query_stop, utility_stop};
 
 use base_trait::BaseFault;
+use calculus::refusals::{CONTENDED, NO_VALUE, NOT_FIT, TOO_MANY_ROWS};
 use decompose::QueryFault;
 use quel_resolve::CheckFault;
 use stage_proc::PairFault;
 use update_change::UpdateFault;
 use utilities::UtilFault;
-
-/// The number of a query or an update of which a target has no value.
-const NO_VALUE: u8 = 20;
-
-/// The number of an update of which a value doesn't fit its attribute.
-const NOT_FIT: u8 = 21;
-
-/// The number of an update by which a row would have different new rows.
-const CONTENDED: u8 = 22;
-
-/// The number of an update by which a relation would have too many rows.
-const TOO_MANY: u8 = 29;
 
 /// Why nothing is made for a statement.
 #[derive(Clone, Copy)]
@@ -67,7 +56,7 @@ impl From<UpdateFault> for Stopped {
                 first: _,
                 second: _,
             } => Stopped::No(CONTENDED),
-            UpdateFault::TooMany { rows: _ } => Stopped::No(TOO_MANY),
+            UpdateFault::TooMany { rows: _ } => Stopped::No(TOO_MANY_ROWS),
             UpdateFault::Base(fault) => Stopped::Base(fault),
             UpdateFault::OutOfMemory => Stopped::OutOfMemory,
         }

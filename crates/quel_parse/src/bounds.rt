@@ -3,14 +3,8 @@
 ghost use Rattle.std.specs.Prelude.{◌≡◌, ◌≤◌, ◌<◌, ◌+◌, ◌-◌, ◌^◌, ◌&&◌, if◌then◌else◌};
 ghost use Rattle.quel_grammar.specs.Bounds.{is_open, is_close, is_comma, has_keys, is_past, first_past};
 
+use calculus::limits::{MOST_KEYS, MOST_PARENTHESES, MOST_TOKENS};
 use quel_grammar::{Fixed, Token};
-
-/// The greatest number of tokens of a statement.
-const TOKENS: usize = 500;
-/// The greatest number of parentheses that are open at once.
-const OPEN: usize = 50;
-/// The greatest number of keys.
-const KEYS: usize = 6;
 
 /// Whether the token opens a parenthesis.
 fn is_open(token: &Token) -> bool
@@ -44,7 +38,7 @@ fn has_keys(tokens: &[Token]) -> bool
 fn is_past(number: usize, opened: usize, commas: usize, token: &Token) -> bool
     ensures { result ≡ is_past (record { tokens = number; open_ = opened; commas = commas }) token.now }
 {
-    number >= TOKENS || (is_open(token) && opened >= OPEN) || commas >= KEYS
+    number >= MOST_TOKENS || (is_open(token) && opened >= MOST_PARENTHESES) || commas >= MOST_KEYS
 }
 
 /// How many parentheses are open behind the token.

@@ -7,13 +7,13 @@ ghost use Rattle.quel_meaning.specs.Passing.{has_too_many, listed_variables};
 ghost use Rattle.view_sizes.specs.Listing.{sources_list_few};
 
 use base_trait::{Base, BaseFault};
-use calculus::limits::MOST_VARIABLES;
+use calculus::limits::{MOST_EXPANDED_VARIABLES, MOST_VARIABLES};
 use calculus::{OutOfMemory, Query};
 use std::alloc::Global;
 use view_sizes::{aggregates_of, listed_expanded_variables};
 
 /// The variables that a query has at most once the views in it are expanded.
-const MOST_EXPANDED_VARIABLES: u64 = 50;
+const MOST_EXPANDED: u64 = MOST_EXPANDED_VARIABLES as u64;
 
 /// How many variables a query lists, each of its aggregates having one; it stops at the greatest number
 /// of 64 bits.
@@ -38,5 +38,5 @@ pub fn has_too_many<B: Base>(alloc: Global, base: &mut B, query: &Query) -> Resu
         return Ok(true);
     }
     let count = listed_expanded_variables(alloc, base, query)?;
-    Ok(count > MOST_EXPANDED_VARIABLES)
+    Ok(count > MOST_EXPANDED)
 }

@@ -19,7 +19,7 @@ ghost use Rattle.quel_meaning.specs.Planned.{greatest, is_past_limit};
 ghost use Rattle.quel_meaning.specs.Scope.{Scope};
 
 use base_trait::{Base, BaseFault};
-use calculus::limits::{GREATEST_NUMBER, MOST_NUMBERED, MOST_SIZE};
+use calculus::limits::{GREATEST_NUMBER, MOST_NUMBERED, MOST_SIZE, MOST_TREE_LEVELS};
 use calculus::refusals::{KINDS_DIFFER, PAST_LIMIT};
 use calculus::{Kind, Name, OutOfMemory, Permit, QQual, Query, RelInfo, RelKey, Rule, kinds_fit};
 use ovqp::kinds_at;
@@ -30,7 +30,7 @@ use view_sizes::{qual_depth, qual_size};
 const MOST_LISTED: usize = 65_535;
 
 /// The levels of a tree that is stored at most.
-const MOST_LEVELS: u64 = 3000;
+const MOST_LEVELS: u64 = MOST_TREE_LEVELS as u64;
 
 /// The greatest number of these permits; 0 where there is none.
 fn greatest_permit(permits: &[Permit]) -> u32

@@ -15,14 +15,14 @@ use crate::repeated::titles_repeat;
 use crate::retrieved::{has_no_room, name_refusal};
 use crate::widths::{is_too_wide, target_kinds};
 use base_trait::{Base, BaseFault};
-use calculus::limits::MOST_SIZE;
+use calculus::limits::{MOST_SIZE, MOST_TREE_LEVELS};
 use calculus::refusals::{KINDS_DIFFER, NAMED_TWICE, PAST_LIMIT, TOO_WIDE};
 use calculus::{Name, OutOfMemory, Query};
 use std::alloc::Global;
 use view_sizes::{has_high_level, query_depth, query_size};
 
 /// The levels of a tree that is stored at most.
-const MOST_LEVELS: u64 = 3000;
+const MOST_LEVELS: u64 = MOST_TREE_LEVELS as u64;
 
 /// Whether the tree of a query without aggregates is deeper than one that is stored may be.
 fn is_too_deep(q: &Query) -> bool

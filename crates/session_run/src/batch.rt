@@ -16,15 +16,13 @@ ghost use Rattle.session_run.specs.Doing.{Did, Goes, Refuses, WorksOn, left, set
 
 use crate::Statements;
 use crate::counted::Counted;
+use calculus::refusals::SYNTAX;
 use calculus::{OutOfMemory, Refusal, Reply, Statement};
 use fault_io::{Shelf, ShelfFault};
 use monitor::push_reply;
 use quel_lexer::first_offset;
 use quel_parse::{ParseFault, next_statement};
 use std::alloc::Global;
-
-/// The number of a syntax refusal.
-const SYNTAX: u8 = 1;
 
 /// Where a walk through a batch stands.
 #[derive(Clone, Copy)]

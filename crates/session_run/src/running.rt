@@ -13,11 +13,9 @@ ghost use Rattle.session_run.specs.declared.running.RunFault.TheVariants.{OutOfM
 use crate::Statements;
 use crate::listener::{Listener, close, hear};
 use calculus::OutOfMemory;
+use calculus::limits::MOST_SCRIPT_BYTES;
 use fault_io::{Failed, Shelf, Sink, SinkFault, Source};
 use std::alloc::Global;
-
-/// The greatest number of bytes of a script.
-const LONGEST_SCRIPT: usize = 16_777_216;
 
 /// The greatest number of bytes that are read at once.
 const LONGEST_PIECE: usize = 4096;
@@ -95,13 +93,13 @@ fn hear_all<S: Statements, H: Shelf, R: Source, K: Sink>(
     let mut given = 0usize;
     'script: loop {
         let _front = listener.partial();
-        let room = LONGEST_PIECE.min(LONGEST_SCRIPT - given).max(1);
+        let room = LONGEST_PIECE.min(MOST_SCRIPT_BYTES - given).max(1);
         let piece = &mut buf[..room];
         let count = source.read(piece)?;
         if count == 0 {
             break;
         }
-        if given == LONGEST_SCRIPT {
+        if given == MOST_SCRIPT_BYTES {
             return Err(RunFault::TooLong);
         }
         hear(alloc, listener, shelf, &piece[..count], sink)?;

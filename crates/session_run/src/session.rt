@@ -15,25 +15,12 @@ use crate::Statements;
 use crate::batch::{push_refused, run_batch};
 use crate::open_file::OpenFiles;
 use calculus::OutOfMemory;
+use calculus::limits::{MOST_INCLUDES, MOST_SCRIPT_BYTES};
+use calculus::refusals::{INCLUDE_LIMIT, NO_COMMAND, NO_FILE};
 use fault_io::{Failed, Shelf, ShelfFault};
 use monitor::{Buffer, Command, Part, parts_of};
 use std::alloc::Global;
 use std::marker::Model;
-
-/// The number of the refusal of a word that is no command, or of a command that lacks its file.
-const NO_COMMAND: u8 = 2;
-
-/// The number of the refusal of a file that may not be included.
-const INCLUDE_LIMIT: u8 = 3;
-
-/// The number of the refusal of a file that isn't there.
-const NO_FILE: u8 = 32;
-
-/// How many included files may be open at once.
-const MOST_OPEN: usize = 8;
-
-/// The greatest number of bytes of all files that are included.
-const MOST_INCLUDED: usize = 16_777_216;
 
 /// What a session keeps from line to line.
 pub struct Session<S: Statements> {
@@ -119,7 +106,7 @@ fn store<H: Shelf>(shelf: &mut H, name: &[u8], bytes: &[u8]) -> Result<(), Shelf
 fn may_include(length: usize, included: usize, opened: usize) -> bool
     ensures { result ≡ may_include length included opened }
 {
-    opened < MOST_OPEN && length <= MOST_INCLUDED && included <= MOST_INCLUDED - length
+    opened < MOST_INCLUDES && length <= MOST_SCRIPT_BYTES && included <= MOST_SCRIPT_BYTES - length
 }
 
 impl<S: Statements> Session<S> {

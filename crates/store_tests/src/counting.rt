@@ -89,6 +89,7 @@ impl PageStore for Counting {
     fn put(&mut self, a: Addr, page: &Page) -> Result<(), StoreFault> {
         self.puts = self.puts.saturating_add(1);
         self.lose(a);
+        self.last = Some(a);
         match self.entries.push(Entry { at: a, page: *page }) {
             Ok(()) => Ok(()),
             Err(_) => Err(StoreFault::OutOfMemory),

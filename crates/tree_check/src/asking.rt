@@ -11,13 +11,14 @@ ghost use Rattle.view_sizes.specs.Listing.{sources_list_few};
 
 use crate::reading::reads_fit;
 use base_trait::{Base, BaseFault};
+use calculus::limits::MOST_EXPANDED_VARIABLES;
 use calculus::{Asked, Query, SortKey};
 use quel_refusals::query_fits;
 use std::alloc::Global;
 use view_sizes::expanded_variables;
 
 /// The variables of a query once the views in it are expanded, at most.
-const MOST_EXPANDED: u64 = 50;
+const MOST_EXPANDED: u64 = MOST_EXPANDED_VARIABLES as u64;
 
 fn are_columns(sort: &[SortKey], most: usize) -> bool
     ensures { result ≡ list_all (λ k. nat_lt k.column most) sort.now }

@@ -10,18 +10,16 @@ ghost use Rattle.quel_meaning.specs.FitQueries.{has_few_targets, is_kept, kept_a
 use crate::slots::slots_count_up;
 use crate::sources::{all_sources_fit, has_few_targets, vars_are_kept};
 use base_trait::{Base, BaseFault};
+use calculus::limits::MOST_EXPANDED_VARIABLES;
 use calculus::{QAgg, Query};
 use std::alloc::Global;
 use view_sizes::aggregates_of;
-
-/// The variables that a query lists at most.
-const MOST_LISTED: usize = 50;
 
 /// Whether a query lists no more variables than one may have that stands for views.
 fn lists_few_vars(q: &Query) -> bool
     ensures { result ≡ lists_few_vars q.now }
 {
-    q.vars.items().len() <= MOST_LISTED
+    q.vars.items().len() <= MOST_EXPANDED_VARIABLES
 }
 
 /// Whether the variables and the targets of a query are not too many.

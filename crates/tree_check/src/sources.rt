@@ -10,18 +10,16 @@ ghost use Rattle.quel_meaning.specs.FitQueries.{has_few_targets, is_kept, kept_a
 
 use crate::standing::{are_kept, is_kept};
 use base_trait::{Base, BaseFault};
+use calculus::limits::MOST_ATTRIBUTES;
 use calculus::{AggSource, QAgg, Query};
 use change_check::valid_query;
 use std::alloc::Global;
-
-/// The targets that a query has at most.
-const MOST_TARGETS: usize = 49;
 
 /// Whether a query has no more targets than a relation may have attributes.
 pub(crate) fn has_few_targets(q: &Query) -> bool
     ensures { result ≡ has_few_targets q.now }
 {
-    q.targets.items().len() <= MOST_TARGETS
+    q.targets.items().len() <= MOST_ATTRIBUTES
 }
 
 /// Whether a query lists one variable at most.

@@ -17,6 +17,7 @@ use crate::queries::update_kinds_fit;
 use crate::reading::reads_fit;
 use crate::relations::relation_fits;
 use base_trait::{Base, BaseFault};
+use calculus::limits::MOST_EXPANDED_VARIABLES;
 use calculus::{Kind, OutOfMemory, QQual, Update, UpdateOp, kinds_fit};
 use change_check::{are_places, places_differ};
 use ovqp::kinds_at;
@@ -25,7 +26,7 @@ use std::alloc::Global;
 use view_sizes::update_expanded_variables;
 
 /// The variables of an update once the views in it are expanded, at most.
-const MOST_EXPANDED: u64 = 50;
+const MOST_EXPANDED: u64 = MOST_EXPANDED_VARIABLES as u64;
 
 /// The kinds of the attributes of the relation that an update makes.
 #[tactic(auto, using(ovqp::proofs::Parts::targets_is))]

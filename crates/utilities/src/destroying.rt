@@ -14,9 +14,9 @@ ghost use Rattle.utilities.specs.Causes.{HasCauseBy};
 ghost use Rattle.utilities.specs.Owning.{is_catalogue_of};
 
 use crate::UtilFault;
-use crate::numbers::{IN_USE, IS_CATALOGUE, NOT_THE_OWNER};
 use crate::owners::is_not_the_owner;
 use base_trait::{Base, BaseFault};
+use calculus::refusals::{IN_USE, IS_CATALOGUE, NOT_OWNER};
 use calculus::{DbChange, List, Name, OutOfMemory, RelKey, TryCopy};
 use quel_refusals::is_catalogue_name;
 use std::alloc::Global;
@@ -107,7 +107,7 @@ fn destroying_refusal<B: Base>(
         return Ok(Some(IS_CATALOGUE));
     }
     if some_not_the_owners(user, rels) {
-        return Ok(Some(NOT_THE_OWNER));
+        return Ok(Some(NOT_OWNER));
     }
     if is_in_use(alloc, base, rels)? {
         return Ok(Some(IN_USE));

@@ -7,7 +7,6 @@ mod fault;
 mod listed;
 mod meeting;
 mod numbering;
-mod numbers;
 mod owners;
 mod permits;
 mod planning;

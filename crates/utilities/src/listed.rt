@@ -6,7 +6,7 @@ ghost use Rattle.calculus.specs.Lists.{has_number};
 ghost use Rattle.calculus.specs.Replacement.{first_refusal};
 ghost use Rattle.quel_meaning.specs.Planned.{ascending, dropped};
 
-use crate::numbers::NOT_STANDING;
+use calculus::refusals::NO_SUCH_NUMBER;
 use calculus::{List, OutOfMemory};
 use std::alloc::Global;
 
@@ -31,7 +31,7 @@ pub(crate) fn listed_refusal(standing: &[u32], numbers: &[u32]) -> Option<u8>
     if all_stand(standing, numbers) {
         None
     } else {
-        Some(NOT_STANDING)
+        Some(NO_SUCH_NUMBER)
     }
 }
 

@@ -3,8 +3,7 @@
 ghost use Rattle.std.specs.Prelude.{◌≡◌, max, true, false, MatchOption};
 ghost use Rattle.quel_meaning.specs.Planned.{greatest, is_past_limit, next_number};
 
-/// The permits, and the rules, that a relation has at most.
-const MOST: usize = 100;
+use calculus::limits::MOST_NUMBERED;
 
 /// The greater of two numbers.
 fn greater(first: u32, second: u32) -> u32
@@ -31,7 +30,7 @@ fn greatest(numbers: &[u32]) -> u32
 pub(crate) fn next_number(standing: &[u32]) -> Option<u32>
     ensures { MatchOption result (is_past_limit 100 standing.now ≡ true) (λ number. (is_past_limit 100 standing.now ≡ false) × (number ≡ next_number standing.now)) }
 {
-    if standing.len() >= MOST {
+    if standing.len() >= MOST_NUMBERED {
         return None;
     }
     greatest(standing).checked_add(1)

@@ -7,8 +7,8 @@ ghost use Rattle.calculus.specs.Database.{Db, view_at};
 ghost use Rattle.calculus.specs.Replacement.{first_refusal};
 ghost use Rattle.quel_meaning.specs.Planned.{has_view, is_not_the_owner, may_not_grant, owner_refusals};
 
-use crate::numbers::NOT_THE_OWNER;
 use base_trait::{Base, BaseFault};
+use calculus::refusals::NOT_OWNER;
 use calculus::{Name, RelKey};
 use quel_refusals::relation_refusal;
 use std::alloc::Global;
@@ -44,7 +44,7 @@ fn may_not_grant<B: Base>(
 fn not_the_owner(there: bool) -> Option<u8>
     ensures { result ≡ first_refusal ((24, there) ∷ []) }
 {
-    if there { Some(NOT_THE_OWNER) } else { None }
+    if there { Some(NOT_OWNER) } else { None }
 }
 
 /// What refuses a change of a relation of the user's, by its number, the first in this order: that

@@ -9,9 +9,9 @@ ghost use Rattle.utilities.specs.Causes.{HasCauseBy};
 
 use crate::UtilFault;
 use crate::numbering::next_number;
-use crate::numbers::PAST_LIMIT;
 use crate::owners::permitting_refusal;
 use base_trait::Base;
+use calculus::refusals::PAST_LIMIT;
 use calculus::{DbChange, Name, OutOfMemory, Permit, RelKey, TryCopy};
 use memory::both;
 use quel_refusals::existing_permits;

@@ -13,9 +13,9 @@ ghost use Rattle.utilities.specs.Decided.{ButRows, IsDecided};
 use crate::UtilFault;
 use crate::meeting::is_broken;
 use crate::numbering::next_number;
-use crate::numbers::{BROKEN, PAST_LIMIT};
 use crate::owners::owner_refusal;
 use base_trait::{Base, BaseFault};
+use calculus::refusals::{PAST_LIMIT, RULE_BROKEN};
 use calculus::{DbChange, Name, OutOfMemory, RelKey, Rule, TryCopy};
 use memory::both;
 use quel_refusals::existing_rules;
@@ -45,7 +45,7 @@ fn rule_made(alloc: Global, rel: &RelKey, rule: &Rule, number: u32) -> Result<Db
 fn broken(there: bool) -> Option<u8>
     ensures { result ≡ first_refusal ((27, there) ∷ []) }
 {
-    if there { Some(BROKEN) } else { None }
+    if there { Some(RULE_BROKEN) } else { None }
 }
 
 /// What refuses a rule for which there is a number: its relation, or a row that breaks it.

@@ -26,4 +26,5 @@ pages-preserved g c = record {
       (c.in_ok-count.ensures.hand begin all m (c.pages.invariant.hand begin all m first));
   came = λ s came. c.write_page.ensures.came s (c.pages.invariant.came s came);
   faults = c.in_ok-count.ensures.cause.caused ∙ c.pages.invariant.faults;
+  reads = c.write_page.ensures.reads ∙ c.pages.invariant.reads;
 }

@@ -15,6 +15,7 @@ invariant-pages g l = record {
       → InHand l.file begin l.at l.page l.left all m (g.S.PageStore.pages l.store);
   came : (s : g.row.S.Denot) → g.S.PageStore.came s l.initial.store → g.S.PageStore.came s l.store;
   faults : g.S.PageStore.faults l.store ≡ g.S.PageStore.faults l.initial.store;
+  reads : g.S.PageStore.reads l.store ≡ g.S.PageStore.reads l.initial.store;
 }
 
 abbrev pub decreases-pages : goal.decreases-pages

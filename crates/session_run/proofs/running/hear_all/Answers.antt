@@ -41,23 +41,23 @@ returns-in_err-count-clause-broken_off g c = λ state begun.
     let plain = subst (λ (x : List ℕ). list_all is_no_newline x ≡ true) (sym was.1.partial) c.partial-front.ensures.front in
     λ e. breaks_off _ _ _ _ _ _ _ _ _ _ was.3 was.2 plain c.in_err-count.ensures.bytes was.1.kept.stands.known_so
 
-pub returns-then-given-eq-LONGEST_SCRIPT-clause-partly : goal.returns-then-given-eq-LONGEST_SCRIPT-clause-partly
-returns-then-given-eq-LONGEST_SCRIPT-clause-partly g c = λ state begun.
+pub returns-then-given-eq-MOST_SCRIPT_BYTES-clause-partly : goal.returns-then-given-eq-MOST_SCRIPT_BYTES-clause-partly
+returns-then-given-eq-MOST_SCRIPT_BYTES-clause-partly g c = λ state begun.
     let was = c.script.invariant.0 state begun in
     partly_read _ _ _ _ _ _ _ _ was.3
 
-pub returns-then-given-eq-LONGEST_SCRIPT-clause-cut_off : goal.returns-then-given-eq-LONGEST_SCRIPT-clause-cut_off
-returns-then-given-eq-LONGEST_SCRIPT-clause-cut_off g c = λ state begun.
+pub returns-then-given-eq-MOST_SCRIPT_BYTES-clause-cut_off : goal.returns-then-given-eq-MOST_SCRIPT_BYTES-clause-cut_off
+returns-then-given-eq-MOST_SCRIPT_BYTES-clause-cut_off g c = λ state begun.
     let was = c.script.invariant.0 state begun in
     let plain = subst (λ (x : List ℕ). list_all is_no_newline x ≡ true) (sym was.1.partial) c.partial-front.ensures.front in
     λ e.
-    cuts_off _ _ _ _ _ _ _ _ _ _ _ was.3 c.if-given-eq-LONGEST_SCRIPT.true was.2 plain
+    cuts_off _ _ _ _ _ _ _ _ _ _ _ was.3 c.if-given-eq-MOST_SCRIPT_BYTES.true was.2 plain
     c.in_ok-count.ensures.bytes.0
     (grind (arith, common_steps))
     was.1.kept.stands.known_so
 
-pub returns-then-given-eq-LONGEST_SCRIPT-clause-keeps_up : goal.returns-then-given-eq-LONGEST_SCRIPT-clause-keeps_up
-returns-then-given-eq-LONGEST_SCRIPT-clause-keeps_up g c = λ state begun.
+pub returns-then-given-eq-MOST_SCRIPT_BYTES-clause-keeps_up : goal.returns-then-given-eq-MOST_SCRIPT_BYTES-clause-keeps_up
+returns-then-given-eq-MOST_SCRIPT_BYTES-clause-keeps_up g c = λ state begun.
     let was = c.script.invariant.0 state begun in
     let plain = subst (λ (x : List ℕ). list_all is_no_newline x ≡ true) (sym was.1.partial) c.partial-front.ensures.front in
     keeps_up _ _ _ _ _ _ _ _ _ _ _ was.3 was.2 plain c.in_ok-count.ensures.bytes.0 (grind (arith, common_steps)) [] (Appends-nil _)
@@ -154,6 +154,6 @@ returns-clause-keeps_up g c = λ state begun.
     let part = c.close.ensures.partly was.0 was.1 in
     keeps_up _ _ _ _ _ _ _ _ _ _ _ was.3 was.2 plain c.in_ok-count.ensures.bytes.0 (grind (arith, common_steps)) part.0 part.1
 
-pub returns-then-given-eq-LONGEST_SCRIPT-clause-past : goal.returns-then-given-eq-LONGEST_SCRIPT-clause-past
-returns-then-given-eq-LONGEST_SCRIPT-clause-past g c = λ e.
-    reads_past _ _ _ _ _ c.script.invariant.7 c.if-given-eq-LONGEST_SCRIPT.true c.in_ok-count.ensures.bytes.0 (grind (arith, common_steps))
+pub returns-then-given-eq-MOST_SCRIPT_BYTES-clause-past : goal.returns-then-given-eq-MOST_SCRIPT_BYTES-clause-past
+returns-then-given-eq-MOST_SCRIPT_BYTES-clause-past g c = λ e.
+    reads_past _ _ _ _ _ c.script.invariant.7 c.if-given-eq-MOST_SCRIPT_BYTES.true c.in_ok-count.ensures.bytes.0 (grind (arith, common_steps))
