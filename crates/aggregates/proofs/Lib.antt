@@ -3,7 +3,6 @@ pub mod WithinSums
 pub mod Order
 pub mod InRuns
 pub mod Held
-pub mod AggregateForms
 pub mod Sourced
 pub mod Standing
 pub mod Placed

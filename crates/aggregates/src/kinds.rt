@@ -1,59 +1,17 @@
-//! The kinds of a source's attributes, and the least and the greatest of no value.
+//! The least and the greatest of no value.
 
-ghost use Rattle.std.specs.Prelude.{◌≡◌, map, Some, IfOk};
+ghost use Rattle.std.specs.Prelude.{◌≡◌, Some, IfOk};
 ghost use Rattle.base_trait.specs.Causes.{HasCause};
-ghost use Rattle.calculus.specs.Aggregate.{source_kinds, none_value};
+ghost use Rattle.calculus.specs.Aggregate.{none_value};
 ghost use Rattle.calculus.specs.Database.{Db};
 ghost use Rattle.calculus.specs.Kinds.{is_text_kind};
-ghost use Rattle.calculus.specs.QueryParts.{targets_of};
 ghost use Rattle.aggregates.specs.Settled.{none_over};
 
 use base_trait::{Base, BaseFault};
-use calculus::{
-    AggSource, Kind, OutOfMemory, QAgg, QTerm, Query, Target, Value, empty_text, is_text_kind,
-    kind_of,
-};
+use calculus::{Kind, OutOfMemory, QAgg, QTerm, Value, empty_text, is_text_kind, kind_of};
 use memory::alone;
-use ovqp::kinds_at;
+use ovqp::source_kinds;
 use std::alloc::Global;
-
-/// The kinds of the targets.
-fn target_kinds(alloc: Global, targets: &[Target]) -> Result<Vec<Kind>, OutOfMemory>
-    ensures { IfOk result (λ kinds. kinds.items ≡ map (λ t. t.kind) targets.now) }
-{
-    let mut kinds = Vec::new(alloc);
-    for target in targets {
-        kinds.push(target.kind)?;
-    }
-    Ok(kinds)
-}
-
-/// The kinds of the targets of a query.
-#[tactic(auto, using(ovqp::proofs::Parts::targets_is))]
-fn query_kinds(alloc: Global, q: &Query) -> Result<Vec<Kind>, OutOfMemory>
-    ensures { IfOk result (λ kinds. kinds.items ≡ map (λ t. t.kind) (targets_of q.now)) }
-{
-    target_kinds(alloc, q.targets.items())
-}
-
-/// The kinds of the attributes of a source.
-#[tactic(auto, using(crate::proofs::Sourced::rows_kinds))]
-fn source_kinds<B: Base>(
-    alloc: Global,
-    base: &mut B,
-    source: &AggSource,
-) -> Result<Vec<Kind>, BaseFault>
-    ensures known { (db : Db) → B.database base.old ≡ Some db → IfOk result (λ kinds. kinds.items ≡ source_kinds db source.now) }
-    ensures kept { B.database base.new ≡ B.database base.old }
-    ensures stays { (s : Db) → B.schema base.old ≡ Some s → B.schema base.new ≡ Some s }
-    ensures asked { (b : B) → B.asked b base.old → B.asked b base.new }
-    ensures cause { HasCause (B.database base.old) (B.faults base.old) (B.faults base.new) result }
-{
-    match source {
-        AggSource::Named(key) => kinds_at(alloc, base, key),
-        AggSource::Rows(q) => Ok(query_kinds(alloc, q.get())?),
-    }
-}
 
 /// The least and the greatest of no value of a term, whose only variable has attributes of these
 /// kinds: the empty text of texts, else 0.

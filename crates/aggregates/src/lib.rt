@@ -6,7 +6,6 @@ mod different;
 mod folding;
 mod grouping;
 mod kinds;
-mod listed;
 mod members;
 mod number;
 mod settling;

@@ -22,11 +22,11 @@ ghost use Rattle.aggregates.specs.Settled.{AllAscend, AllStand, TargetsHaveTable
 
 use crate::grouping::grouped;
 use crate::kinds::none_value;
-use crate::listed::aggregates_of;
 use crate::members::members;
 use crate::sources::source_rows;
 use base_trait::{Base, BaseFault};
 use calculus::{AggOp, AggTable, Groups, OutOfMemory, QAgg, Query, Row, RowSet, TryCopy, Value};
+use ovqp::aggregates_of;
 use std::alloc::Global;
 
 /// What an operation makes of no values, where `none` is the least and the greatest of them.

@@ -1,32 +1,25 @@
 //! Permits and rules that are made.
 
-ghost use Rattle.std.specs.Prelude.{◌≡◌, ◌∷◌, [], ◌&&◌, length, nat_le, nat_lt, IfOk, Some, bytes_eq};
+ghost use Rattle.std.specs.Prelude.{◌≡◌, [], ◌&&◌, length, nat_lt, IfOk, Some, bytes_eq};
 ghost use Rattle.std.specs.List.{list_all};
 ghost use Rattle.base_trait.specs.Causes.{HasCause};
 ghost use Rattle.calculus.specs.Change.{permit_numbers, rule_numbers};
 ghost use Rattle.calculus.specs.Database.{Db, is_relation};
 ghost use Rattle.calculus.specs.IsDatabase.{valid_row_qual, user_is_named};
-ghost use Rattle.calculus.specs.Kinds.{kinds_fit};
 ghost use Rattle.calculus.specs.QueryParts.{qual_aggregates};
-ghost use Rattle.calculus.specs.Sizes.{qual_size};
 ghost use Rattle.calculus.specs.Storable.{permit_lists_are_storable, row_qual_is_storable};
 ghost use Rattle.calculus.specs.Stored.{kinds_at};
-ghost use Rattle.view_sizes.specs.Sized.{qual_depth};
 ghost use Rattle.change_laws.specs.Fit.{number_is_free, permit_is_fit, rule_is_fit};
 
 use crate::keys::is_relation;
 use crate::numbers::has_number;
 use base_trait::{Base, BaseFault};
-use calculus::limits::{MOST_NUMBERED, MOST_SIZE, MOST_TREE_LEVELS};
-use calculus::{Kind, Name, OutOfMemory, Permit, QQual, RelKey, Rule, is_name, kinds_fit};
+use calculus::limits::MOST_NUMBERED;
+use calculus::{Kind, Name, Permit, QQual, RelKey, Rule, is_name};
 use ovqp::kinds_at;
-use quel_refusals::{existing_permits, existing_rules};
+use quel_refusals::{existing_permits, existing_rules, qual_is_small, valid_row_qual};
 use std::alloc::Global;
 use update_laws::qual_is_spelled;
-use view_sizes::{qual_depth, qual_size};
-
-/// The levels of a tree that is stored at most.
-const MOST_LEVELS: u64 = MOST_TREE_LEVELS as u64;
 
 /// The attributes that a permit lists at most.
 const MOST_LISTED: usize = 65_535;
@@ -64,31 +57,13 @@ pub fn are_places(kinds: &[Kind], attrs: &[u8]) -> bool
     attrs.iter().all(|attr| (*attr as usize) < most)
 }
 
-/// Whether the kinds in a qualification over a row with attributes of these kinds fit.
-fn row_qual_fits(alloc: Global, kinds: Vec<Kind>, qual: &QQual) -> Result<bool, OutOfMemory>
-    ensures { IfOk result (λ fit. fit ≡ kinds_fit qual.now (kinds.items ∷ [])) }
-{
-    let mut vars = Vec::new(alloc);
-    vars.push(kinds)?;
-    Ok(kinds_fit(qual, &vars))
-}
-
-/// Whether a qualification in which no aggregate stands is no larger and no deeper than one that is
-/// stored may be.
-#[tactic(auto, using(view_sizes::proofs::Stopped::stopped_le))]
-fn is_small(qual: &QQual) -> bool
-    ensures { result ≡ (nat_le (qual_size [] qual.now) 1000 && nat_le (qual_depth qual.now) 3000) }
-{
-    qual_size(&[], qual) <= MOST_SIZE && qual_depth(qual) <= MOST_LEVELS
-}
-
 /// Whether a qualification in which no aggregate stands can be stored: it is small enough, and its
 /// constants are those of their types.
 fn is_storable(qual: &QQual) -> bool
     ensures { qual_aggregates qual.now ≡ [] → result ≡ row_qual_is_storable qual.now }
 {
     qual_is_spelled(qual);
-    is_small(qual)
+    qual_is_small(qual)
 }
 
 /// Whether a qualification over a row of the relation stands, and can be stored.
@@ -104,8 +79,7 @@ pub fn row_qual_is_fit<B: Base>(
     ensures asked { (b : B) → B.asked b base.old → B.asked b base.new }
     ensures cause { HasCause (B.database base.old) (B.faults base.old) (B.faults base.new) result }
 {
-    let kinds = kinds_at(alloc, base, rel)?;
-    if !row_qual_fits(alloc, kinds, qual)? {
+    if !valid_row_qual(alloc, base, rel, qual)? {
         return Ok(false);
     }
     Ok(is_storable(qual))

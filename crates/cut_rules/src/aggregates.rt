@@ -23,9 +23,9 @@ use crate::sources::expanded_source;
 use base_trait::Base;
 use calculus::{AggSource, List, Name, OutOfMemory, QAgg, QQual, QTerm, Query, TryCopy};
 use memory::{both, push};
+use ovqp::aggregates_of;
 use std::alloc::Global;
 use view_expand::{ExpansionFault, ExpansionsFound};
-use view_sizes::aggregates_of;
 use view_text::{Expansion, all_of, substituted_term};
 
 /// Puts the terms, with the expansions substituted, behind those that are there.

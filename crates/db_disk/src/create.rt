@@ -13,6 +13,7 @@ ghost use Rattle.db_disk.specs.Making.{Bears, BothCame, Clears, Creates, Heads, 
 ghost use Rattle.db_disk.specs.Faults.{FailsBy};
 
 use crate::fault::CreateFault;
+use crate::head::{BIRTH, HEADER};
 use crate::header::put_header;
 use calculus::Name;
 use disk_model::{Addr, Disk, DiskFailed, Page};
@@ -20,12 +21,6 @@ use page_cells::fresh_page;
 
 /// The page of the gate.
 const GATE: Addr = Addr { file: 1, page: 0 };
-
-/// The page of the header.
-const HEADER: Addr = Addr { file: 0, page: 0 };
-
-/// The page of the birth byte.
-const BIRTH: Addr = Addr { file: 0, page: 1 };
 
 /// Writes another page than that of the birth byte.
 fn write_beside<D: Disk>(disk: &mut D, a: Addr, page: &Page) -> Result<(), DiskFailed>

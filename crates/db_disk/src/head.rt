@@ -16,10 +16,10 @@ use disk_model::{Addr, Page};
 use std::alloc::Global;
 
 /// The page of the header.
-const HEADER: Addr = Addr { file: 0, page: 0 };
+pub(crate) const HEADER: Addr = Addr { file: 0, page: 0 };
 
 /// The page of the birth byte.
-const BIRTH: Addr = Addr { file: 0, page: 1 };
+pub(crate) const BIRTH: Addr = Addr { file: 0, page: 1 };
 
 /// What says that a disk holds a database.
 #[derive(Drop)]

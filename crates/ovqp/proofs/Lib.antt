@@ -14,3 +14,4 @@ pub mod NamingForms
 pub mod Choosing
 pub mod NamedForms
 pub mod Gathered
+pub mod AggregateForms

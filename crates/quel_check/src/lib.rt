@@ -21,5 +21,6 @@ pub use mentions::{Mention, mentions_in_qual, mentions_in_term};
 pub use names::vars_in;
 pub use range_table::RangeTable;
 pub use slots::slot_behind_item;
+pub use statement_parts::{items_of, where_of};
 pub use trees::{qual_tree, term_tree, where_tree};
 pub use whole_trees::{qual_tree_from, term_tree_from, where_tree_from};

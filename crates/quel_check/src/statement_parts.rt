@@ -7,7 +7,7 @@ ghost use Rattle.quel_meaning.specs.WrittenParts.{items_of, where_of};
 use calculus::{Item, Qual, Statement};
 
 /// The target list of a statement; none where it has none.
-pub(crate) fn items_of(s: &Statement) -> &[Item]
+pub fn items_of(s: &Statement) -> &[Item]
     ensures { result.now ≡ items_of s.now }
 {
     match s {
@@ -20,7 +20,7 @@ pub(crate) fn items_of(s: &Statement) -> &[Item]
 }
 
 /// The qualification of a statement; `None` where it can have none, which says the same as `True`.
-pub(crate) fn where_of(s: &Statement) -> Option<&Qual>
+pub fn where_of(s: &Statement) -> Option<&Qual>
     ensures { unwrap_or (option_map (λ qual. qual.now) result) True ≡ where_of s.now }
 {
     match s {

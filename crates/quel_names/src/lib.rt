@@ -10,9 +10,9 @@ mod mention;
 mod mentioned;
 mod refusal;
 mod role;
-mod statement_parts;
 mod targets;
 mod text;
+mod titles;
 
 pub use base_trait::BaseFault;
 pub use infos::{

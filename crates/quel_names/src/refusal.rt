@@ -10,11 +10,11 @@ ghost use Rattle.quel_names.specs.Parts.{head, title_in};
 
 use crate::head::head;
 use crate::mentioned::refusal_of;
-use crate::statement_parts::{items_of, titles_of, where_of};
 use crate::text::query_refusal;
+use crate::titles::titles_of;
 use base_trait::{Base, BaseFault};
 use calculus::{Name, Statement};
-use quel_check::RangeTable;
+use quel_check::{RangeTable, items_of, where_of};
 use std::alloc::Global;
 
 /// What refuses the names in front of the target list.

@@ -1,14 +1,10 @@
 -- Aggregates by their parts.
-use Rattle.std.proofs.Common.{◌≡◌, refl, sym, ap, ◌∙◌, suc, arith, Bool, true, false, ◌&&◌, List, [], ◌∷◌, length, map}
+use Rattle.std.proofs.Common.{◌≡◌, refl, sym, ap, ◌∙◌, suc, arith, Bool, true, false, ◌&&◌, List, [], ◌∷◌, length}
 use Rattle.std.specs.List.{list_all, zip}
 use Rattle.calculus.specs.declared.value.Kind.{Kind}
-use Rattle.calculus.specs.declared.query.AggSource.TheVariants.{Rows}
-use Rattle.calculus.specs.declared.query.Query.{Query}
 use Rattle.calculus.specs.declared.query.QAgg.{QAgg}
 use Rattle.calculus.specs.declared.query.QTerm.{QTerm}
 use Rattle.calculus.specs.Aggregate.{source_kinds}
-use Rattle.calculus.specs.QueryParts.{targets_of}
-use Rattle.calculus.proofs.Forms.{rows_is}
 use Rattle.calculus.specs.Database.{Db}
 use Rattle.calculus.specs.Kinds.{comparable, kind_of, kinds_fit}
 use Rattle.quel_meaning.specs.KindsInQueries.{aggregate_kind, fitting_kind, links_fit}
@@ -41,7 +37,3 @@ pub kind_over : (db : Db) (g : QAgg) (inner vars : Vars) → inner ≡ source_ki
     → fitting_kind (links_fit inner g.by vars g.link && kinds_fit g.qual inner) g.op (kind_of g.arg inner) ≡ aggregate_kind db g vars
 unfolding aggregate_kind
 kind_over db g inner vars e = ap (λ (inner : Vars). fitting_kind (links_fit inner g.by vars g.link && kinds_fit g.qual inner) g.op (kind_of g.arg inner)) e
-
--- the kinds of the attributes of a query's rows are those of its targets
-pub rows_kinds : (db : Db) (q : Query) → map (λ t. t.kind) (targets_of q) ≡ source_kinds db (Rows q)
-rows_kinds db q = sym (ap (source_kinds db) (rows_is q))

@@ -6,16 +6,13 @@ ghost use Rattle.base_trait.specs.Causes.{HasCause};
 ghost use Rattle.calculus.specs.Aggregate.{source_kinds};
 ghost use Rattle.calculus.specs.Database.{Db};
 ghost use Rattle.calculus.specs.Kinds.{comparable, kind_of, kinds_fit};
-ghost use Rattle.calculus.specs.QueryParts.{targets_of};
 ghost use Rattle.quel_meaning.specs.KindsInQueries.{aggregate_kind, fitting_kind, folded_kind, links_fit};
 
-use crate::widths::target_kinds;
 use base_trait::{Base, BaseFault};
 use calculus::{
-    AggOp, AggSource, Kind, OutOfMemory, QAgg, QTerm, Query, comparable, is_number_kind, kind_of,
-    kinds_fit,
+    AggOp, Kind, OutOfMemory, QAgg, QTerm, comparable, is_number_kind, kind_of, kinds_fit,
 };
-use ovqp::kinds_at;
+use ovqp::source_kinds;
 use std::alloc::Global;
 
 /// The kind of what an operation gives for values of a kind; `None` exactly where it would add texts up.
@@ -74,33 +71,6 @@ fn kind_over(g: &QAgg, inner: &[Vec<Kind>], vars: &[Vec<Kind>]) -> Option<Kind>
         return None;
     }
     folded_kind(g.op, kind)
-}
-
-/// The kinds of the targets of a query.
-#[tactic(auto, using(ovqp::proofs::Parts::targets_is))]
-fn query_kinds(alloc: Global, q: &Query) -> Result<Vec<Kind>, OutOfMemory>
-    ensures { IfOk result (λ kinds. kinds.items ≡ map (λ t. t.kind) (targets_of q.now)) }
-{
-    target_kinds(alloc, q.targets.items())
-}
-
-/// The kinds of the attributes of a source.
-#[tactic(auto, using(crate::proofs::Linked::rows_kinds))]
-fn source_kinds<B: Base>(
-    alloc: Global,
-    base: &mut B,
-    source: &AggSource,
-) -> Result<Vec<Kind>, BaseFault>
-    ensures known { (db : Db) → B.schema base.old ≡ Some db → IfOk result (λ kinds. kinds.items ≡ source_kinds db source.now) }
-    ensures kept { B.database base.new ≡ B.database base.old }
-    ensures stays { (s : Db) → B.schema base.old ≡ Some s → B.schema base.new ≡ Some s }
-    ensures asked { (b : B) → B.asked b base.old → B.asked b base.new }
-    ensures cause { HasCause (B.database base.old) (B.faults base.old) (B.faults base.new) result }
-{
-    match source {
-        AggSource::Named(key) => kinds_at(alloc, base, key),
-        AggSource::Rows(q) => Ok(query_kinds(alloc, q.get())?),
-    }
 }
 
 /// The kinds of the attributes of one variable, as those of all variables.

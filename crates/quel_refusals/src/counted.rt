@@ -9,8 +9,9 @@ ghost use Rattle.view_sizes.specs.Listing.{sources_list_few};
 use base_trait::{Base, BaseFault};
 use calculus::limits::{MOST_EXPANDED_VARIABLES, MOST_VARIABLES};
 use calculus::{OutOfMemory, Query};
+use ovqp::aggregates_of;
 use std::alloc::Global;
-use view_sizes::{aggregates_of, listed_expanded_variables};
+use view_sizes::listed_expanded_variables;
 
 /// The variables that a query has at most once the views in it are expanded.
 const MOST_EXPANDED: u64 = MOST_EXPANDED_VARIABLES as u64;

@@ -27,5 +27,6 @@ pub use numbered::{existing_permits, existing_rules};
 pub use places::{is_catalogue_name, is_full, is_taken};
 pub use refusing::find_refusal;
 pub use repeated::{repeats, sorts_by_titles};
+pub use restricted::{qual_is_small, valid_row_qual};
 pub use terms::{kind_in_query, kinds_fit_in_query};
-pub use widths::{is_too_wide, kind_bytes, made_kinds, target_kinds};
+pub use widths::{is_too_wide, kind_bytes, made_kinds};

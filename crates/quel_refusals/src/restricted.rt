@@ -93,7 +93,7 @@ fn has_all_rules<B: Base>(alloc: Global, base: &mut B, rel: &RelKey) -> Result<b
 /// Whether a qualification in which no aggregate stands is no larger and no deeper than one that is
 /// stored may be.
 #[tactic(auto, using(view_sizes::proofs::Stopped::stopped_le))]
-fn is_small(qual: &QQual) -> bool
+pub fn qual_is_small(qual: &QQual) -> bool
     ensures { result ≡ (nat_le (qual_size [] qual.now) 1000 && nat_le (qual_depth qual.now) 3000) }
 {
     qual_size(&[], qual) <= MOST_SIZE && qual_depth(qual) <= MOST_LEVELS
@@ -109,7 +109,7 @@ fn fits_row(alloc: Global, kinds: Vec<Kind>, qual: &QQual) -> Result<bool, OutOf
 }
 
 /// Whether the kinds in a qualification over a row of the relation fit.
-fn valid_row_qual<B: Base>(
+pub fn valid_row_qual<B: Base>(
     alloc: Global,
     base: &mut B,
     rel: &RelKey,
@@ -129,7 +129,7 @@ fn valid_row_qual<B: Base>(
 fn is_past_row(q: &Query) -> bool
     ensures { query_aggregates q.now ≡ [] → result ≡ (nat_lt 1 (length (vars_of q.now)) || not (row_qual_is_small (qual_of q.now))) }
 {
-    q.vars.items().len() > 1 || !is_small(&q.qual)
+    q.vars.items().len() > 1 || !qual_is_small(&q.qual)
 }
 
 /// Whether there is no room for a permit that lists these attributes, where it is known whether there is

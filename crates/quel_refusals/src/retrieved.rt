@@ -14,12 +14,13 @@ use crate::counted::has_too_many;
 use crate::fitting::query_fits;
 use crate::places::{is_full, is_taken};
 use crate::repeated::{sorts_by_titles, titles_repeat};
-use crate::widths::{is_too_wide, made_kinds, target_kinds};
+use crate::widths::{is_too_wide, made_kinds};
 use base_trait::{Base, BaseFault};
 use calculus::refusals::{
     KINDS_DIFFER, NAME_IN_USE, NAMED_TWICE, NO_ATTRIBUTE, PAST_LIMIT, TOO_WIDE,
 };
 use calculus::{Name, OutOfMemory, Query, Target};
+use ovqp::target_kinds;
 use std::alloc::Global;
 
 /// What refuses rows of these targets that are printed in this order: a name to sort by, their width.

@@ -13,11 +13,12 @@ ghost use Rattle.quel_meaning.specs.Scope.{Scope};
 use crate::fitting::query_fits;
 use crate::repeated::titles_repeat;
 use crate::retrieved::{has_no_room, name_refusal};
-use crate::widths::{is_too_wide, target_kinds};
+use crate::widths::is_too_wide;
 use base_trait::{Base, BaseFault};
 use calculus::limits::{MOST_SIZE, MOST_TREE_LEVELS};
 use calculus::refusals::{KINDS_DIFFER, NAMED_TWICE, PAST_LIMIT, TOO_WIDE};
 use calculus::{Name, OutOfMemory, Query};
+use ovqp::target_kinds;
 use std::alloc::Global;
 use view_sizes::{has_high_level, query_depth, query_size};
 

@@ -43,17 +43,6 @@ pub fn is_too_wide(kinds: &[Kind]) -> bool
     kinds.len() > MOST_ATTRIBUTES || row_bytes(kinds) > MOST_ROW_BYTES
 }
 
-/// The kinds of the targets.
-pub fn target_kinds(alloc: Global, targets: &[Target]) -> Result<Vec<Kind>, OutOfMemory>
-    ensures { IfOk result (λ kinds. kinds.items ≡ map (λ t. t.kind) targets.now) }
-{
-    let mut kinds = Vec::new(alloc);
-    for target in targets {
-        kinds.push(target.kind)?;
-    }
-    Ok(kinds)
-}
-
 /// The kinds of the attributes that are made of the targets: a number of 64 bits becomes one of 32.
 pub fn made_kinds(alloc: Global, targets: &[Target]) -> Result<Vec<Kind>, OutOfMemory>
     ensures { IfOk result (λ kinds. kinds.items ≡ map (λ t. (made_attr t).kind) targets.now) }

@@ -12,8 +12,8 @@ use crate::sources::{all_sources_fit, has_few_targets, vars_are_kept};
 use base_trait::{Base, BaseFault};
 use calculus::limits::MOST_EXPANDED_VARIABLES;
 use calculus::{QAgg, Query};
+use ovqp::aggregates_of;
 use std::alloc::Global;
-use view_sizes::aggregates_of;
 
 /// Whether a query lists no more variables than one may have that stands for views.
 fn lists_few_vars(q: &Query) -> bool

@@ -1,4 +1,3 @@
-pub mod AggregateForms
 pub mod Counting
 pub mod DepthForms
 pub mod Enlarged

@@ -13,14 +13,13 @@ ghost use Rattle.quel_meaning.specs.Passing.{listed_expanded_variables};
 ghost use Rattle.view_sizes.specs.Listing.{source_lists_few, sources_list_few};
 ghost use Rattle.view_sizes.specs.Remembered.{AreMeasured};
 
-use crate::aggregates::aggregates_of;
 use crate::remembered::Measures;
 use crate::variables::{variables_found, variables_through, variables_under_found};
 use base_trait::{Base, BaseFault};
 use calculus::limits::MOST_LEVEL;
 use calculus::{AggSource, QAgg, Query, RelKey, Update, UpdateOp};
 use indexmap::IndexMap;
-use ovqp::is_used;
+use ovqp::{aggregates_of, is_used};
 use std::alloc::Global;
 
 /// The variables of an aggregate's source.

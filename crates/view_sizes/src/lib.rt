@@ -1,7 +1,6 @@
 //! How large queries and views are once the views in them are expanded.
 #![tactic(auto)]
 
-mod aggregates;
 mod depths;
 mod expanded;
 mod measures;
@@ -10,7 +9,6 @@ mod remembered;
 mod sizes;
 mod variables;
 
-pub use aggregates::aggregates_of;
 pub use depths::{qual_depth, query_depth, term_depth};
 pub use expanded::{expanded_variables, listed_expanded_variables, update_expanded_variables};
 pub use measures::{measure_of, query_size, used_count};

@@ -11,4 +11,4 @@ pub returns-else-items-gt1 : goal.returns-else-items-gt1
 returns-else-items-gt1 c = λ none.
     let few : length (vars_of c.args.q.now) ≤ 1 = subst (λ vs. length vs ≤ 1) (c.items.ensures ∙ vars_is c.args.q.now) c.if-items-gt1.false in
     let one : nat_lt 1 (length (vars_of c.args.q.now)) ≡ false = le-ltb _ _ few in
-    ap not (small_of c.args.q.now c.is_small.result _ (qual_is c.args.q.now) none c.is_small.ensures) ∙ ap (λ b. b || not (row_qual_is_small (qual_of c.args.q.now))) (sym one)
+    ap not (small_of c.args.q.now c.qual_is_small.result _ (qual_is c.args.q.now) none c.qual_is_small.ensures) ∙ ap (λ b. b || not (row_qual_is_small (qual_of c.args.q.now))) (sym one)

@@ -1,7 +1,7 @@
 use Rattle.std.proofs.Common.{◌++◌, sym, ap, ◌∙◌, map, flat_map, take, get_or, append_assoc, []}
 use Rattle.std.proofs.lemmas.List.{take_all, take_more, flat_map_more}
 use Rattle.calculus.specs.QueryParts.{term_aggregates}
-use Rattle.aggregates.proofs.listed.push_targets.Goals as goal
+use Rattle.ovqp.proofs.aggregates.push_targets.Goals as goal
 
 pub loop-target-preserved : goal.loop-target-preserved
 loop-target-preserved c =

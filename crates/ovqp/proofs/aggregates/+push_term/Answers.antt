@@ -2,8 +2,8 @@ use Rattle.std.proofs.Common.{◌++◌, ◌∷◌, [], sym, ap, ◌∙◌, map}
 use Rattle.std.proofs.lemmas.List.{map-append}
 use Rattle.std.proofs.lemmas.Result.{on_ok_weaker}
 use Rattle.calculus.specs.QueryParts.{term_aggregates}
-use Rattle.aggregates.proofs.AggregateForms.{alone, behind, in_agg, in_pair, one_behind, stays}
-use Rattle.aggregates.proofs.listed.+push_term.Goals as goal
+use Rattle.ovqp.proofs.AggregateForms.{alone, behind, in_agg, in_pair, one_behind, stays}
+use Rattle.ovqp.proofs.aggregates.+push_term.Goals as goal
 
 pub returns-in_ok-push_term-in-Arith : goal.returns-in_ok-push_term-in-Arith
 returns-in_ok-push_term-in-Arith t c =

@@ -1,8 +1,8 @@
 use Rattle.std.proofs.Common.{sym, ap, ◌∙◌, map}
 use Rattle.calculus.specs.Aggregate.{source_kinds}
 use Rattle.calculus.specs.QueryParts.{targets_of}
-use Rattle.quel_refusals.proofs.Linked.{rows_kinds}
-use Rattle.quel_refusals.proofs.aggregates.source_kinds.Goals as goal
+use Rattle.ovqp.proofs.Parts.{rows_kinds}
+use Rattle.ovqp.proofs.kinds.source_kinds.Goals as goal
 
 pub returns-in_ok-query_kinds-in-Rows-clause-known : goal.returns-in_ok-query_kinds-in-Rows-clause-known
 returns-in_ok-query_kinds-in-Rows-clause-known g c = λ db h.

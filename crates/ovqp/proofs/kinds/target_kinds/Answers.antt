@@ -1,6 +1,6 @@
 use Rattle.std.proofs.Common.{sym, ap, ◌∙◌, map, ◌++◌, ◌∷◌, []}
 use Rattle.std.proofs.lemmas.List.{take_all, map_more}
-use Rattle.quel_refusals.proofs.widths.target_kinds.Goals as goal
+use Rattle.ovqp.proofs.kinds.target_kinds.Goals as goal
 
 pub loop-target-preserved : goal.loop-target-preserved
 loop-target-preserved c =

@@ -1,8 +1,8 @@
 use Rattle.std.proofs.Common.{◌++◌, sym, ap, ◌∙◌, map}
 use Rattle.std.proofs.lemmas.Result.{on_ok_weaker}
 use Rattle.calculus.specs.QueryParts.{qual_aggregates}
-use Rattle.aggregates.proofs.AggregateForms.{behind, in_cmp, in_quals, in_true, stays}
-use Rattle.aggregates.proofs.listed.+push_qual.Goals as goal
+use Rattle.ovqp.proofs.AggregateForms.{behind, in_cmp, in_quals, in_true, stays}
+use Rattle.ovqp.proofs.aggregates.+push_qual.Goals as goal
 
 pub returns-in_ok-push_qual-in-And : goal.returns-in_ok-push_qual-in-And
 returns-in_ok-push_qual-in-And t c =
