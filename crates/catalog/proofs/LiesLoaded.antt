@@ -12,7 +12,7 @@ use Rattle.page_chain.specs.Lists.{once}
 use Rattle.page_chain.specs.Pages.{pages_of}
 use Rattle.plain_base.specs.Shown.{database_of}
 use Rattle.plain_base.specs.declared.db_plain.DbPlain.{DbPlain}
-use Rattle.catalog_read.specs.declared.schema_parts.SchemaParts.{SchemaParts}
+use Rattle.catalog_read.specs.declared.parts.SchemaParts.{SchemaParts}
 use Rattle.catalog_read.specs.Parts.{Parts, index_owners_agree, parts_in, relation_in, whole}
 use Rattle.stored_database.specs.Catalogue.{Catalogue, catalogue_in}
 use Rattle.stored_database.specs.Printed.{HasFiles, files_in, printed}

@@ -26,7 +26,7 @@ use Rattle.page_chain.specs.Pages.{Pages, pages_of}
 use Rattle.plain_base.specs.Shown.{database_of}
 use Rattle.plain_base.specs.declared.db_plain.DbPlain.{DbPlain}
 use Rattle.schema_laws.proofs.SchemaStands.{schema_is_database}
-use Rattle.catalog_read.specs.declared.schema_parts.SchemaParts.{SchemaParts}
+use Rattle.catalog_read.specs.declared.parts.SchemaParts.{SchemaParts}
 use Rattle.catalog_read.specs.Parts.{index_owners_agree, parts_in, whole}
 use Rattle.stored_database.specs.Catalogue.{Catalogue, IsCatalogue, catalogue_in, listed, most_pages}
 use Rattle.stored_database.specs.Columns.{column_of, column_cmp, is_column}

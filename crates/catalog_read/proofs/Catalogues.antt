@@ -10,7 +10,7 @@ use Rattle.stored_database.specs.Parts.{Part, part_of, part_cmp}
 use Rattle.catalog_rows.specs.Shown.{entry_in, column_in, part_in}
 use Rattle.catalog_rows.specs.declared.entries.EntryRow.{EntryRow}
 use Rattle.catalog_rows.specs.declared.columns.ColumnRow.{ColumnRow}
-use Rattle.catalog_rows.specs.declared.tree_parts.PartRow.{PartRow}
+use Rattle.catalog_rows.specs.declared.part_rows.PartRow.{PartRow}
 use Rattle.catalog_read.specs.Read.{catalogue_of}
 use Rattle.catalog_read.specs.Rows.{both_there, each_once, AreBoth}
 use Rattle.catalog_read.proofs.Both.{mapped_both}

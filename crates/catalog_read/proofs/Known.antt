@@ -5,7 +5,7 @@ use Rattle.std.specs.List.{list_all}
 use Rattle.calculus.specs.declared.change.DbChange.{DbChange}
 use Rattle.calculus.specs.Database.{Db}
 use Rattle.calculus.specs.IsDatabase.{IsDatabase}
-use Rattle.catalog_read.specs.declared.schema_parts.SchemaParts.{SchemaParts}
+use Rattle.catalog_read.specs.declared.parts.SchemaParts.{SchemaParts}
 use Rattle.catalog_read.specs.Parts.{Parts, parts_in, index_in, whole, index_owners_agree}
 use Rattle.catalog_read.specs.Applying.{IsLeft, nothing_in, round, changes_of, is_of_its_base}
 use Rattle.catalog_read.proofs.Rounds.{round_left, round_length, none_fits}

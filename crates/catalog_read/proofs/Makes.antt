@@ -20,10 +20,10 @@ use Rattle.stored_database.specs.Spelled.{attrs_of, entry_at, info_of, index_of,
 use Rattle.stored_database.specs.Trees.{query_of, rule_of, permit_of, tree_at, tree_of}
 use Rattle.catalog_rows.specs.Shown.{entry_in, part_in}
 use Rattle.catalog_rows.specs.declared.entries.EntryRow.{EntryRow}
-use Rattle.catalog_rows.specs.declared.tree_parts.PartRow.{PartRow}
+use Rattle.catalog_rows.specs.declared.part_rows.PartRow.{PartRow}
 use Rattle.catalog_read.specs.Parts.{Parts, index_in, view_in}
-use Rattle.catalog_read.specs.declared.schema_parts.IndexPart.{IndexPart}
-use Rattle.catalog_read.specs.declared.schema_parts.ViewPart.{ViewPart}
+use Rattle.catalog_read.specs.declared.parts.IndexPart.{IndexPart}
+use Rattle.catalog_read.specs.declared.parts.ViewPart.{ViewPart}
 use Rattle.catalog_read.specs.PartsMade.{parts_made}
 use Rattle.catalog_read.specs.Read.{catalogue_shown, relation_info, parts_of}
 use Rattle.catalog_read.specs.Rows.{AreBoth, both_there, tree_in, numbered_in}

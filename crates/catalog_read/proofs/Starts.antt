@@ -19,9 +19,9 @@ use Rattle.calculus.specs.Structures.{is_index}
 use Rattle.change_laws.specs.Fit.{change_is_fit}
 use Rattle.change_laws.proofs.Exactly.{fits_exactly}
 use Rattle.plan_laws.proofs.Kept.{both, each}
-use Rattle.catalog_read.specs.declared.schema_parts.IndexPart.{IndexPart}
-use Rattle.catalog_read.specs.declared.schema_parts.ViewPart.{ViewPart}
-use Rattle.catalog_read.specs.declared.schema_parts.SchemaParts.{SchemaParts}
+use Rattle.catalog_read.specs.declared.parts.IndexPart.{IndexPart}
+use Rattle.catalog_read.specs.declared.parts.ViewPart.{ViewPart}
+use Rattle.catalog_read.specs.declared.parts.SchemaParts.{SchemaParts}
 use Rattle.catalog_read.specs.Parts.{parts_in, index_in, view_in, whole, index_owners_agree}
 use Rattle.catalog_read.specs.Applying.{Shuffled, changes_of, made_index, made_relation, made_view, made_rule, made_permit, is_of_its_base, relation_of, index_of, view_of, rule_of, permit_of, makes_a_part, IsLeft, nothing_in, round, behind, stepped}
 use Rattle.catalog_read.proofs.Shuffles.{same, back, all_shuffled}

@@ -8,7 +8,7 @@ use Rattle.stored_database.specs.Spelled.{columns_stand, parts_stand, part_stand
 use Rattle.stored_database.specs.Trees.{parts_are_whole}
 use Rattle.catalog_rows.specs.Shown.{column_in, part_in}
 use Rattle.catalog_rows.specs.declared.columns.ColumnRow.{ColumnRow}
-use Rattle.catalog_rows.specs.declared.tree_parts.PartRow.{PartRow}
+use Rattle.catalog_rows.specs.declared.part_rows.PartRow.{PartRow}
 use Rattle.catalog_read.specs.Read.{catalogue_shown}
 use Rattle.catalog_read.specs.declared.rows.CatalogueRows.{CatalogueRows}
 

@@ -14,7 +14,7 @@ use Rattle.stored_database.proofs.Groups.{filter_append, filter_fail}
 use Rattle.stored_database.proofs.Members.{IsIn, of_all, all_of, filter_in, in_filter}
 use Rattle.stored_database.proofs.Reading.{both, same_number, number_itself}
 use Rattle.catalog_rows.specs.Shown.{part_in}
-use Rattle.catalog_rows.specs.declared.tree_parts.PartRow.{PartRow}
+use Rattle.catalog_rows.specs.declared.part_rows.PartRow.{PartRow}
 use Rattle.catalog_read.specs.Rows.{Splits, part_side}
 use Rattle.catalog_read.specs.Splitting.{parts_split, key_of_part}
 use Rattle.catalog_read.specs.declared.rows.TreeKey.{TreeKey}

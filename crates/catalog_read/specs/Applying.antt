@@ -13,7 +13,7 @@ use Rattle.calculus.specs.Database.{Db, Index, View}
 use Rattle.calculus.specs.Lists.{is_any}
 use Rattle.calculus.specs.Structures.{is_index}
 use Rattle.change_laws.specs.Fit.{change_is_fit}
-use Rattle.catalog_read.specs.declared.schema_parts.SchemaParts.{SchemaParts}
+use Rattle.catalog_read.specs.declared.parts.SchemaParts.{SchemaParts}
 use Rattle.catalog_read.specs.Parts.{Parts, index_in, view_in}
 
 -- ---- parts as changes

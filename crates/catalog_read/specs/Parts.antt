@@ -8,9 +8,9 @@ use Rattle.calculus.specs.declared.schema.Rule.{Rule}
 use Rattle.calculus.specs.Database.{Db, Relation, Index, View}
 use Rattle.calculus.specs.Keys.{key_cmp, numbered_cmp}
 use Rattle.page_chain.specs.Lists.{◌>>=◌, once}
-use Rattle.catalog_read.specs.declared.schema_parts.IndexPart.{IndexPart}
-use Rattle.catalog_read.specs.declared.schema_parts.ViewPart.{ViewPart}
-use Rattle.catalog_read.specs.declared.schema_parts.SchemaParts.{SchemaParts}
+use Rattle.catalog_read.specs.declared.parts.IndexPart.{IndexPart}
+use Rattle.catalog_read.specs.declared.parts.ViewPart.{ViewPart}
+use Rattle.catalog_read.specs.declared.parts.SchemaParts.{SchemaParts}
 
 -- what a database is but for the rows of its relations, in parts
 pub record Parts : Type 0 where

@@ -10,8 +10,8 @@ ghost use Rattle.catalog_read.specs.Parts.{Parts, parts_in, whole, index_in, ind
 ghost use Rattle.catalog_read.specs.Applying.{IsLeft, nothing_in, is_of_its_base};
 
 use crate::applying::apply_all;
+use crate::parts::{IndexPart, SchemaParts};
 use crate::parts_as_changes::changes_of;
-use crate::schema_parts::{IndexPart, SchemaParts};
 use calculus::{DbChange, Name, OutOfMemory, Spec};
 use plain_base::DbPlain;
 use std::alloc::Global;

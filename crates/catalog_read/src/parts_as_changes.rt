@@ -5,7 +5,7 @@ ghost use Rattle.calculus.specs.declared.change.DbChange.{DbChange as Change};
 ghost use Rattle.catalog_read.specs.Parts.{index_in, view_in};
 ghost use Rattle.catalog_read.specs.Applying.{made_relation, made_index, made_view, made_rule, made_permit, changes_of};
 
-use crate::schema_parts::{IndexPart, SchemaParts, ViewPart};
+use crate::parts::{IndexPart, SchemaParts, ViewPart};
 use calculus::{DbChange, List, OutOfMemory, Permit, RelInfo, RelKey, Rule, TryCopy};
 use memory::both;
 use std::alloc::Global;

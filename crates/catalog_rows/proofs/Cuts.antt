@@ -6,7 +6,7 @@ use Rattle.std.proofs.lemmas.List.{take_min}
 use Rattle.std.proofs.Math.ListN.{drop_of_length-le}
 use Rattle.stored_database.specs.Trees.{are_cut, cut, parts_from, pieces}
 use Rattle.catalog_rows.specs.Shown.{part_in}
-use Rattle.catalog_rows.specs.declared.tree_parts.PartRow.{PartRow}
+use Rattle.catalog_rows.specs.declared.part_rows.PartRow.{PartRow}
 
 left_over : (most b : ℕ) (bytes : List ℕ) → length (b ∷ bytes) ≤ suc most → length (drop 900 (b ∷ bytes)) ≤ most
 left_over most b bytes h = omega (arith, length-drop 900 (b ∷ bytes))

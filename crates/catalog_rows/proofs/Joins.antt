@@ -8,7 +8,7 @@ use Rattle.page_chain.specs.Lists.{◌>>=◌}
 use Rattle.stored_database.specs.Columns.{column_in, kind_in}
 use Rattle.stored_database.specs.Names.{name_of}
 use Rattle.stored_database.specs.Parts.{Part}
-use Rattle.catalog_rows.specs.declared.tree_parts.PartRow.{PartRow}
+use Rattle.catalog_rows.specs.declared.part_rows.PartRow.{PartRow}
 use Rattle.catalog_rows.specs.Shown.{part_in}
 
 -- the bytes of parts, one behind the other

@@ -9,7 +9,7 @@ use Rattle.stored_database.specs.Names.{name_of}
 use Rattle.stored_database.specs.Parts.{Part}
 use Rattle.catalog_rows.specs.declared.entries.EntryRow.{EntryRow}
 use Rattle.catalog_rows.specs.declared.columns.ColumnRow.{ColumnRow}
-use Rattle.catalog_rows.specs.declared.tree_parts.PartRow.{PartRow}
+use Rattle.catalog_rows.specs.declared.part_rows.PartRow.{PartRow}
 
 -- the entry that it is
 abbrev pub entry_in : EntryRow → Entry

@@ -4,11 +4,11 @@
 mod adding;
 mod columns;
 mod entries;
+mod part_rows;
 mod places;
-mod tree_parts;
 mod trees;
 
 pub use columns::{ColumnRow, column_row, read_column};
 pub use entries::{EntryRow, entry_row, read_entry};
-pub use tree_parts::{PartRow, part_row, read_part};
+pub use part_rows::{PartRow, part_row, read_part};
 pub use trees::{joined_parts, tree_parts};

@@ -9,7 +9,7 @@ ghost use Rattle.catalog_rows.specs.Shown.{part_in};
 ghost use Rattle.page_chain.specs.Lists.{are_from};
 ghost use Rattle.page_chain.specs.Lying.{IsShort};
 
-use crate::tree_parts::{PartRow, row_with};
+use crate::part_rows::{PartRow, row_with};
 use calculus::{List, OutOfMemory};
 use std::alloc::Global;
 

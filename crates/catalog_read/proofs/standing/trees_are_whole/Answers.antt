@@ -1,7 +1,7 @@
 use Rattle.std.proofs.Common.{◌≡◌, ◌<◌, ◌≤◌, ◌∙◌, ◌&&◌, ap, arith, drop, length, length-drop, map, refl, sym, true, List, [], ◌∷◌}
 use Rattle.stored_database.specs.Trees.{parts_are_whole}
 use Rattle.catalog_rows.specs.Shown.{part_in}
-use Rattle.catalog_rows.specs.declared.tree_parts.PartRow.{PartRow}
+use Rattle.catalog_rows.specs.declared.part_rows.PartRow.{PartRow}
 use Rattle.catalog_read.proofs.WholeTrees.{Goes, tree_fits, tree_goes}
 use Rattle.catalog_read.proofs.standing.trees_are_whole.Goals as goal
 

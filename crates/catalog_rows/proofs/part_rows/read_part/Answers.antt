@@ -1,7 +1,7 @@
 use Rattle.std.proofs.Common.{ap, sym, ◌∙◌, slice_index, Some, arith}
 use Rattle.stored_database.specs.Parts.{Part, part_in}
 use Rattle.catalog_rows.proofs.Fields.{part_where_sort_is}
-use Rattle.catalog_rows.proofs.tree_parts.read_part.Goals as goal
+use Rattle.catalog_rows.proofs.part_rows.read_part.Goals as goal
 
 pub returns : goal.returns
 unfolding part_in

@@ -3,7 +3,7 @@ use Rattle.byteorder.specs.Endian.{little_bytes}
 use Rattle.stored_database.specs.Names.{bytes32}
 use Rattle.stored_database.specs.Parts.{part_bytes}
 use Rattle.catalog_rows.proofs.Behind.{behind_each_other}
-use Rattle.catalog_rows.proofs.tree_parts.add_part.Goals as goal
+use Rattle.catalog_rows.proofs.part_rows.add_part.Goals as goal
 
 pub returns : goal.returns
 unfolding part_bytes
