@@ -51,7 +51,7 @@ use Rattle.tree_laws.proofs.Queries.{targets_of-put}
 use Rattle.tree_laws.proofs.Denoted.{restriction_holds}
 use Rattle.tree_laws.proofs.Sound.{viewed, plain_view, unrestricted_rows}
 use Rattle.tree_laws.proofs.Unrestrictedly.{plain_put}
-use Rattle.calculus.specs.declared.value.Value.TheVariants.{Expansion, Int}
+use Rattle.calculus.specs.declared.value.Value.TheVariants.{Text, Int}
 
 -- ---- links
 
@@ -227,7 +227,7 @@ module _ (db : Db) (d : IsDatabase db) (who : Who) where
       ∙ none_alike (arguments g (folded_rows (rows_of db who) g link)) (none_put folds.kinds)
     where
       none_put : source_kinds db (expanded_source db who g.source) ≡ source_kinds db g.source → none_value db (expanded_aggregate db who put g) ≡ none_value db g
-      none_put same = ap (λ kinds. if is_text_kind (kind_of g.arg (kinds ∷ [])) then Expansion [] else Int (pos 0)) same
+      none_put same = ap (λ kinds. if is_text_kind (kind_of g.arg (kinds ∷ [])) then Text [] else Int (pos 0)) same
 
       none_alike : (values : Option (List Value)) → none_value db (expanded_aggregate db who put g) ≡ none_value db g → fold_arguments db (expanded_aggregate db who put g) values ≡ fold_arguments db g values
       none_alike None same = refl
