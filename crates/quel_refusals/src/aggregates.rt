@@ -10,7 +10,8 @@ ghost use Rattle.quel_meaning.specs.KindsInQueries.{aggregate_kind, fitting_kind
 
 use base_trait::{Base, BaseFault};
 use calculus::{
-    AggOp, Kind, OutOfMemory, QAgg, QTerm, comparable, is_number_kind, kind_of, kinds_fit,
+    AggOp, AggSource, Kind, OutOfMemory, QAgg, QTerm, comparable, is_number_kind, kind_of,
+    kinds_fit,
 };
 use ovqp::source_kinds;
 use std::alloc::Global;
