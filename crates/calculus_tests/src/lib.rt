@@ -4,6 +4,8 @@
 #[cfg(test)]
 mod answers;
 #[cfg(test)]
+mod broken_statements;
+#[cfg(test)]
 mod change_bytes;
 #[cfg(test)]
 mod copies;
@@ -26,6 +28,10 @@ mod joined;
 #[cfg(test)]
 mod leaves;
 #[cfg(test)]
+mod memory_refused;
+#[cfg(test)]
+mod monitored;
+#[cfg(test)]
 mod pair_changes;
 #[cfg(test)]
 mod patterns;
@@ -36,7 +42,13 @@ mod pieces;
 #[cfg(test)]
 mod queries;
 #[cfg(test)]
+mod read_statements;
+#[cfg(test)]
+mod reading;
+#[cfg(test)]
 mod refused;
+#[cfg(test)]
+mod replies;
 #[cfg(test)]
 mod request_bytes;
 #[cfg(test)]
@@ -58,7 +70,11 @@ mod spellings;
 #[cfg(test)]
 mod statements;
 #[cfg(test)]
+mod table_lines;
+#[cfg(test)]
 mod texts;
+#[cfg(test)]
+mod tokens;
 #[cfg(test)]
 mod trees;
 #[cfg(test)]

@@ -5,13 +5,25 @@
 #[cfg(test)]
 mod batches;
 #[cfg(test)]
+mod catalogues;
+#[cfg(test)]
+mod counting;
+#[cfg(test)]
+mod creating;
+#[cfg(test)]
+mod databases;
+#[cfg(test)]
 mod disks;
+#[cfg(test)]
+mod files;
 #[cfg(test)]
 mod folders;
 #[cfg(test)]
 mod pages;
 #[cfg(test)]
 mod rows;
+#[cfg(test)]
+mod shared;
 #[cfg(test)]
 mod shelves;
 #[cfg(test)]

@@ -1,7 +1,7 @@
 //! The queries, the updates and the trees of statements.
 
 use crate::given::{name, relation, statement, two_relations, two_vars};
-use crate::shown::{put, put_digit, put_query};
+use crate::shown_trees::{put, put_digit, put_query};
 use calculus::{Asked, Checked, Query, Statement};
 use quel_check::Known;
 use quel_resolve::{query_of, tree_by};

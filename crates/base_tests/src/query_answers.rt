@@ -1,4 +1,4 @@
-use crate::trees::{query, rows, tree};
+use crate::query_trees::{query, rows, tree};
 use calculus::{Checked, List, RowSet, SortKey, Table};
 use decompose::{QueryFault, answer};
 use stage_proc::{sorted, tables_of};

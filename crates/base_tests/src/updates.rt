@@ -1,4 +1,4 @@
-use crate::trees::{alone, rows, tree};
+use crate::query_trees::{alone, rows, tree};
 use base_trait::BaseFault;
 use calculus::{Checked, DbChange, Domain, Kind, OutOfMemory, Pair, RowSet, Update};
 use decompose::QueryFault;

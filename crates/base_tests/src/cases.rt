@@ -1,6 +1,6 @@
 //! Updates of the rows of a group and a share.
 
-use crate::trees::{row, tree};
+use crate::query_trees::{row, tree};
 use calculus::{Checked, Pair, Row};
 use stage_proc::{PairFault, pairs_of};
 use std::alloc::Global;

@@ -1,5 +1,5 @@
 use crate::cases::{found, gives};
-use crate::trees::{alone, row};
+use crate::query_trees::{alone, row};
 use calculus::Row;
 use decompose::QueryFault;
 use stage_proc::PairFault;

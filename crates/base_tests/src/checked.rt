@@ -1,7 +1,7 @@
 //! What statements become once views, permits and rules are put in, and what refuses them.
 
 use crate::given::{name, statement};
-use crate::shown::{put, put_asked, put_digit, put_key, put_number, put_qual, put_query};
+use crate::shown_trees::{put, put_asked, put_digit, put_key, put_number, put_qual, put_query};
 use crate::stored::{SMALL, Standing, base, ranges};
 use calculus::{Checked, Update};
 use quel_resolve::CheckFault;

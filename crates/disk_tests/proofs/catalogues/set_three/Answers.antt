@@ -1,7 +1,7 @@
 use Rattle.plain_base.specs.Shown.{database_of}
 use Rattle.catalog_moves.specs.Files.{files_of}
-use Rattle.store_tests.proofs.Said.{may_be}
-use Rattle.store_tests.proofs.catalogues.set_three.Goals as goal
+use Rattle.disk_tests.proofs.Said.{may_be}
+use Rattle.disk_tests.proofs.catalogues.set_three.Goals as goal
 
 pub set_file-requires : goal.set_file-requires
 set_file-requires g c =

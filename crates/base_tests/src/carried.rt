@@ -1,6 +1,6 @@
 //! Relations that are destroyed, restructured, indexed and copied.
 
-use crate::shown::{put, put_digit, put_key};
+use crate::shown_trees::{put, put_digit, put_key};
 use crate::stored::shown;
 use calculus::{CopyCol, CopyForm, Spec, Utility};
 use std::process::Abort;

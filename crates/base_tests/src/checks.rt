@@ -1,7 +1,7 @@
 //! The range variables of a run; what statements name; their trees.
 
 use crate::given::{name, statement, two_relations};
-use crate::shown::{put, put_digit, put_qual, put_term};
+use crate::shown_trees::{put, put_digit, put_qual, put_term};
 use calculus::{Item, Name, Qual, RelInfo, RelKey, Statement, Term};
 use quel_check::{
     Mention, RangeTable, has_aggregate, mentions_in_qual, mentions_in_term, qual_has_aggregate,

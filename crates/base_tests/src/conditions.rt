@@ -1,4 +1,4 @@
-use crate::trees::{query, rows};
+use crate::query_trees::{query, rows};
 use calculus::RowSet;
 use decompose::{QueryFault, answer};
 use std::alloc::Global;

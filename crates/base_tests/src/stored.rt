@@ -2,7 +2,7 @@
 
 use crate::carried::put_utility;
 use crate::given::{name, statement};
-use crate::shown::{put, put_asked, put_digit, put_key, put_number, put_qual, put_query};
+use crate::shown_trees::{put, put_asked, put_digit, put_key, put_number, put_qual, put_query};
 use calculus::{Checked, Permit, RelKey, Rule, Utility};
 use quel_check::RangeTable;
 use quel_resolve::{CheckFault, resolve};
