@@ -3,6 +3,7 @@
 ghost use Rattle.std.specs.Prelude.{◌≡◌, false};
 ghost use Rattle.plan_laws.specs.Fitting.{is_copy};
 
+use crate::plans::is_copy;
 use calculus::{Asked, Checked, DbChange, Domain, Kind, Name, OutOfMemory, Statement, Utility};
 use memory::both;
 use plain_base::DbPlain;
@@ -47,16 +48,6 @@ fn makes_p(change: &DbChange) -> u8 {
                 && info.attrs.items().first().map(|attr| attr.kind) == Some(Kind::Of(Domain::I2)),
         ),
         _ => 0,
-    }
-}
-
-/// Whether work is a copy, which isn't planned.
-fn is_copy(work: &Utility) -> bool
-    ensures { result ≡ false → is_copy work.now ≡ false }
-{
-    match work {
-        Utility::Copy { .. } => true,
-        _ => false,
     }
 }
 

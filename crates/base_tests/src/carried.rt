@@ -1,12 +1,13 @@
 //! Relations that are destroyed, restructured, indexed and copied.
 
-use crate::shown_trees::{put, put_digit, put_key};
+use crate::shown::put;
+use crate::shown_trees::{put_digit, put_key};
 use crate::stored::shown;
 use calculus::{CopyCol, CopyForm, Spec, Utility};
 use std::process::Abort;
 use std::test::*;
 
-fn put_places(rt: &impl Abort, shown: &mut Vec<u8>, places: &[u8]) {
+pub(crate) fn put_places(rt: &impl Abort, shown: &mut Vec<u8>, places: &[u8]) {
     for place in places {
         put_digit(rt, shown, *place);
     }

@@ -1,6 +1,7 @@
 //! Updates of the rows of a group and a share.
 
-use crate::query_trees::{row, tree};
+use crate::number_rows::row;
+use crate::shared::tree;
 use calculus::{Checked, Pair, Row};
 use stage_proc::{PairFault, pairs_of};
 use std::alloc::Global;

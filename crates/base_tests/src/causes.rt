@@ -1,6 +1,6 @@
 //! The parts of what refuses a statement.
 
-use crate::given::name;
+use crate::shared::named;
 use base_trait::BaseFault;
 use calculus::{Domain, Kind};
 use quel_refusals::{is_full, is_taken, is_too_wide, repeats};
@@ -11,8 +11,8 @@ use test_bases::TestBase;
 
 /// Whether a name is in use where nothing is there, and whether it stands twice among `a` and itself.
 fn used(rt: &impl Abort, alloc: Global, bytes: &[u8]) -> (bool, bool) {
-    let first = name(rt, alloc, b"a");
-    let name = name(rt, alloc, bytes);
+    let first = named(rt, alloc, b"a");
+    let name = named(rt, alloc, bytes);
     let mut base = TestBase::of_entries(alloc, 0);
     let taken = is_taken(alloc, &mut base, &name, &name).expect(rt, "an answer");
     drop(base);

@@ -1,7 +1,9 @@
 //! What statements become once views, permits and rules are put in, and what refuses them.
 
-use crate::given::{name, statement};
-use crate::shown_trees::{put, put_asked, put_digit, put_key, put_number, put_qual, put_query};
+use crate::given::statement;
+use crate::shared::named;
+use crate::shown::put;
+use crate::shown_trees::{put_asked, put_digit, put_key, put_number, put_qual, put_query};
 use crate::stored::{SMALL, Standing, base, ranges};
 use calculus::{Checked, Update};
 use quel_resolve::CheckFault;
@@ -38,7 +40,7 @@ fn shown(rt: &impl Abort, alloc: Global, user: &[u8], text: &[u8], standing: Sta
     let mut shown = Vec::new(alloc);
     let mut base = base(rt, alloc, standing, SMALL);
     let ranges = ranges(rt, alloc);
-    let user = name(rt, alloc, user);
+    let user = named(rt, alloc, user);
     let s = statement(rt, alloc, text);
     let answer = checked(alloc, &s, &user, &ranges, &mut base);
     put_answer(rt, &mut shown, &answer);

@@ -1,7 +1,9 @@
 //! The range variables of a run; what statements name; their trees.
 
-use crate::given::{name, statement, two_relations};
-use crate::shown_trees::{put, put_digit, put_qual, put_term};
+use crate::given::{statement, two_relations};
+use crate::shared::named;
+use crate::shown::put;
+use crate::shown_trees::{put_digit, put_qual, put_term};
 use calculus::{Item, Name, Qual, RelInfo, RelKey, Statement, Term};
 use quel_check::{
     Mention, RangeTable, has_aggregate, mentions_in_qual, mentions_in_term, qual_has_aggregate,
@@ -28,13 +30,13 @@ fn ranged(rt: &impl Abort, alloc: Global, var: &[u8]) -> Option<u8> {
     let mut table = RangeTable::new(alloc);
     for rel in [b"p".as_slice(), b"q".as_slice()] {
         let key = RelKey {
-            owner: name(rt, alloc, b"ann"),
-            name: name(rt, alloc, rel),
+            owner: named(rt, alloc, b"ann"),
+            name: named(rt, alloc, rel),
         };
-        let done = table.declare(name(rt, alloc, b"x"), key);
+        let done = table.declare(named(rt, alloc, b"x"), key);
         done.expect(rt, "memory");
     }
-    let var = name(rt, alloc, var);
+    let var = named(rt, alloc, var);
     let found = relation_of(&table, &var);
     drop(var);
     drop(table);

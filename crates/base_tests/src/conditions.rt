@@ -1,4 +1,6 @@
-use crate::query_trees::{query, rows};
+use crate::number_rows::rows;
+use crate::shared::query;
+use crate::shown::put;
 use calculus::RowSet;
 use decompose::{QueryFault, answer};
 use std::alloc::Global;
@@ -83,10 +85,6 @@ fn many(rt: &impl Abort, alloc: Global) -> Vec<u8> {
         );
     }
     bytes
-}
-
-fn put(rt: &impl Abort, written: &mut Vec<u8>, bytes: &[u8]) {
-    written.extend_from_slice(bytes).expect(rt, "memory");
 }
 
 /// Whether the numbers 1 to 3 are answered of it.

@@ -1,5 +1,5 @@
 use crate::cases::{found, gives};
-use crate::query_trees::{alone, row};
+use crate::number_rows::{alone, row};
 use calculus::Row;
 use decompose::QueryFault;
 use stage_proc::PairFault;

@@ -3,17 +3,13 @@
 ghost use Rattle.std.specs.Prelude.{◌≡◌, true};
 ghost use Rattle.quel_meaning.specs.IsWritten.{is_written};
 
+use crate::shared::named;
 use calculus::{Name, RelInfo, Statement};
 use quel_parse::next_statement;
 use quel_tree::RelInfoTree;
 use std::alloc::Global;
 use std::process::Abort;
 use tree_words::read_whole;
-
-pub(crate) fn name(rt: &impl Abort, alloc: Global, bytes: &[u8]) -> Name {
-    let name = Name::of(alloc, bytes).expect(rt, "memory");
-    name.expect(rt, "a name")
-}
 
 /// The statement that a text begins with.
 #[tactic(auto, using(reading_laws::proofs::Statements::computed_written))]
@@ -41,7 +37,7 @@ pub(crate) const Q: &[u8] = b"\x03ann\x01q\x00\x00\x02\x01b\x00\x01\x01d\x00\x01
 pub(crate) fn two_vars(rt: &impl Abort, alloc: Global) -> Vec<Name> {
     let mut vars = Vec::new(alloc);
     for var in [b"x".as_slice(), b"y".as_slice()] {
-        vars.push(name(rt, alloc, var)).expect(rt, "memory");
+        vars.push(named(rt, alloc, var)).expect(rt, "memory");
     }
     vars
 }

@@ -1,3 +1,5 @@
+use crate::shared::query;
+use crate::shown::put;
 use aggregates::settle;
 use calculus::{AggOp, AggTable, Query, Value};
 use quel_tree::{QueryTree, tree_of};
@@ -63,10 +65,6 @@ fn byte_of(op: AggOp) -> u8 {
     }
 }
 
-fn put(rt: &impl Abort, written: &mut Vec<u8>, bytes: &[u8]) {
-    written.extend_from_slice(bytes).expect(rt, "memory");
-}
-
 /// Puts the terms of the by-list, and a 1 as a link for each of them.
 fn put_lists(rt: &impl Abort, written: &mut Vec<u8>, by: &[&[u8]]) {
     let count = u8::try_from(by.len()).unwrap_or(255);
@@ -98,13 +96,6 @@ fn spelled(rt: &impl Abort, alloc: Global, folded: Folded) -> Vec<u8> {
         &[1, 3, 2, 0, 0, 0, 0, 0, 0, 0, 0, 0, 0, folded.most, 0],
     );
     bytes
-}
-
-/// The query that these bytes spell.
-pub(crate) fn query(rt: &impl Abort, alloc: Global, bytes: &[u8]) -> Query {
-    tree_of::<QueryTree>(alloc, bytes)
-        .ok()
-        .expect(rt, "a query")
 }
 
 /// The one table of a query for the aggregate.

@@ -37,6 +37,8 @@ mod looked_up;
 #[cfg(test)]
 mod new_database;
 #[cfg(test)]
+mod number_rows;
+#[cfg(test)]
 mod one_variable;
 #[cfg(test)]
 mod plans;
@@ -44,8 +46,6 @@ mod plans;
 mod queries;
 #[cfg(test)]
 mod query_answers;
-#[cfg(test)]
-mod query_trees;
 #[cfg(test)]
 mod remembered;
 #[cfg(test)]

@@ -1,4 +1,5 @@
-use crate::groups::{NUMBER, SHARE, TEXT, query, shelf};
+use crate::groups::{NUMBER, SHARE, TEXT, shelf};
+use crate::shared::query;
 use calculus::{Query, RowSet, Value};
 use decompose::QueryFault;
 use std::alloc::Global;

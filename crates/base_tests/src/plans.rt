@@ -24,7 +24,7 @@ const LAID: [&[u8]; 2] = [
 type Case<'a> = (&'a [u8], &'a [u8], Result<&'a [u8], u8>);
 
 /// Whether work is a copy, which isn't planned.
-fn is_copy(work: &Utility) -> bool
+pub(crate) fn is_copy(work: &Utility) -> bool
     ensures { result ≡ false → is_copy work.now ≡ false }
 {
     match work {

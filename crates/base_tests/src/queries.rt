@@ -1,7 +1,10 @@
 //! The queries, the updates and the trees of statements.
 
-use crate::given::{name, relation, statement, two_relations, two_vars};
-use crate::shown_trees::{put, put_digit, put_query};
+use crate::carried::put_places;
+use crate::given::{relation, statement, two_relations, two_vars};
+use crate::shared::named;
+use crate::shown::put;
+use crate::shown_trees::{put_digit, put_query};
 use calculus::{Asked, Checked, Query, Statement};
 use quel_check::Known;
 use quel_resolve::{query_of, tree_by};
@@ -38,12 +41,6 @@ fn put_asked(rt: &impl Abort, shown: &mut Vec<u8>, asked: &Asked) {
     }
 }
 
-fn put_places(rt: &impl Abort, shown: &mut Vec<u8>, places: &[u8]) {
-    for place in places {
-        put_digit(rt, shown, *place);
-    }
-}
-
 /// Puts the tables that are printed behind the others.
 fn put_answer(rt: &impl Abort, shown: &mut Vec<u8>, all: &[Asked]) {
     for asked in all {
@@ -71,7 +68,7 @@ fn put_tree_of(
     query: Query,
     is_there: bool,
 ) {
-    let user = name(rt, alloc, b"ann");
+    let user = named(rt, alloc, b"ann");
     let info = relation(
         rt,
         alloc,

@@ -1,4 +1,5 @@
-use crate::query_trees::{query, rows, tree};
+use crate::number_rows::rows;
+use crate::shared::{query, tree};
 use calculus::{Checked, List, RowSet, SortKey, Table};
 use decompose::{QueryFault, answer};
 use stage_proc::{sorted, tables_of};

@@ -1,12 +1,8 @@
 //! Trees as bytes: places as digits, `VARIABLE.ATTRIBUTE`.
 
+use crate::shown::put;
 use calculus::{ArithOp, Asked, Domain, Kind, QQual, QTerm, Query, RelKey, Target};
 use std::process::Abort;
-
-/// Puts bytes behind the others.
-pub(crate) fn put(rt: &impl Abort, shown: &mut Vec<u8>, bytes: &[u8]) {
-    shown.extend_from_slice(bytes).expect(rt, "memory");
-}
 
 /// Puts a number of one digit behind the others; a question mark for all that are greater.
 pub(crate) fn put_digit(rt: &impl Abort, shown: &mut Vec<u8>, number: u8) {

@@ -1,7 +1,8 @@
 //! The trees of aggregates: their slots, their by-lists and their links; and which aggregates may stand.
 
 use crate::given::{P, Q, relation, statement};
-use crate::shown_trees::{put, put_digit, put_key, put_qual, put_term, put_title};
+use crate::shown::put;
+use crate::shown_trees::{put_digit, put_key, put_qual, put_term, put_title};
 use crate::stored::{SMALL, base, ranges};
 use calculus::{
     AggOp, AggSource, ArithOp, CmpOp, Name, QAgg, QQual, QTerm, Query, RelInfo, Statement,

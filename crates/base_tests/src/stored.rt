@@ -1,8 +1,10 @@
 //! Views, permits and rules that are defined, and permits and rules that go.
 
 use crate::carried::put_utility;
-use crate::given::{name, statement};
-use crate::shown_trees::{put, put_asked, put_digit, put_key, put_number, put_qual, put_query};
+use crate::given::statement;
+use crate::shared::named;
+use crate::shown::put;
+use crate::shown_trees::{put_asked, put_digit, put_key, put_number, put_qual, put_query};
 use calculus::{Checked, Permit, RelKey, Rule, Utility};
 use quel_check::RangeTable;
 use quel_resolve::{CheckFault, resolve};
@@ -126,8 +128,8 @@ pub(crate) fn base(
 
 fn key(rt: &impl Abort, alloc: Global, rel: &[u8]) -> RelKey {
     RelKey {
-        owner: name(rt, alloc, b"ann"),
-        name: name(rt, alloc, rel),
+        owner: named(rt, alloc, b"ann"),
+        name: named(rt, alloc, rel),
     }
 }
 
@@ -142,7 +144,7 @@ pub(crate) fn ranges(rt: &impl Abort, alloc: Global) -> RangeTable {
         (b"z", b"vo"),
         (b"t", b"vp"),
     ] {
-        let done = ranges.declare(name(rt, alloc, var), key(rt, alloc, rel));
+        let done = ranges.declare(named(rt, alloc, var), key(rt, alloc, rel));
         done.expect(rt, "memory");
     }
     ranges
@@ -217,7 +219,7 @@ fn put_answer(rt: &impl Abort, shown: &mut Vec<u8>, answer: &Result<Checked, Che
 fn shown_in(rt: &impl Abort, alloc: Global, text: &[u8], base: &mut TestBase) -> Vec<u8> {
     let mut shown = Vec::new(alloc);
     let ranges = ranges(rt, alloc);
-    let user = name(rt, alloc, b"ann");
+    let user = named(rt, alloc, b"ann");
     let s = statement(rt, alloc, text);
     let answer = resolve(alloc, &s, &user, &ranges, base);
     put_answer(rt, &mut shown, &answer);

@@ -1,4 +1,5 @@
-use crate::query_trees::{alone, rows, tree};
+use crate::number_rows::{alone, rows};
+use crate::shared::tree;
 use base_trait::BaseFault;
 use calculus::{Checked, DbChange, Domain, Kind, OutOfMemory, Pair, RowSet, Update};
 use decompose::QueryFault;

@@ -1,23 +1,8 @@
-//! Trees that are read of their bytes, and rows of numbers.
+//! Rows of numbers.
 
-use calculus::{Checked, Query, Row, Value};
-use quel_tree::{CheckedTree, QueryTree, tree_of};
+use calculus::{Row, Value};
 use std::alloc::Global;
 use std::process::Abort;
-
-/// The tree that these bytes spell.
-pub fn tree(rt: &impl Abort, alloc: Global, bytes: &[u8]) -> Checked {
-    tree_of::<CheckedTree>(alloc, bytes)
-        .ok()
-        .expect(rt, "a tree")
-}
-
-/// The query that these bytes spell.
-pub fn query(rt: &impl Abort, alloc: Global, bytes: &[u8]) -> Query {
-    tree_of::<QueryTree>(alloc, bytes)
-        .ok()
-        .expect(rt, "a query")
-}
 
 /// The item alone.
 pub fn alone<T: Drop>(rt: &impl Abort, alloc: Global, item: T) -> Vec<T> {
