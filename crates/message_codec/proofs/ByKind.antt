@@ -1,0 +1,87 @@
+-- What bytes are read as, kind by kind.
+use Rattle.std.specs.Prelude.{◌≡◌, ◌==◌, ℕ, Bool, true, false, List, [], ◌∷◌, Some, None, Option, option_and_then, option_map}
+use Rattle.std.proofs.Common.{refl, sym, ap, ◌∙◌}
+use Rattle.calculus.specs.declared.change.DbChange.{DbChange}
+use Rattle.calculus.specs.declared.reply.Column.{Column}
+use Rattle.calculus.specs.declared.reply.Refusal.{Refusal}
+use Rattle.calculus.specs.declared.request.Checked.{Checked}
+use Rattle.calculus.specs.Rows.{Row}
+use Rattle.message_codec.specs.declared.messages.StageMessage.{StageMessage}
+use Rattle.message_codec.specs.declared.messages.StageMessage.TheVariants as stage
+use Rattle.message_codec.specs.Messages.{message}
+use Rattle.network_meaning.specs.Sorts.{Message, Cargo.tree, Cargo.change, Shown.head, Shown.row, Reply.done, Reply.refused, Said.shown, Said.replied, Message.text, Message.cargo, Message.said, Message.end, Message.quit}
+use Rattle.quel_network.specs.Sorts.{quel_sorts}
+use Rattle.quel_network.specs.Spelling.{if_empty, is_refusal_number, known_refusal, message_by, refusal_codec, spelled_by}
+use Rattle.quel_tree.specs.Changes.{change as change_codec}
+use Rattle.quel_tree.specs.Message.{most_tree_levels}
+use Rattle.quel_tree.specs.Relations.{columns as columns_codec}
+use Rattle.quel_tree.specs.Requests.{checked as checked_codec}
+use Rattle.quel_tree.specs.Values.{row as row_codec}
+
+-- ---- a value that was read, or none
+
+pub text_read : (bytes : List ℕ) → ◌≡◌ {A = Option (Message quel_sorts)} (Some (text bytes)) (message_by 1 bytes)
+unfolding message_by
+text_read bytes = refl
+
+pub tree_read : (o : Option Checked) (bytes : List ℕ) → o ≡ spelled_by (checked_codec most_tree_levels) bytes → option_map (λ (t : Checked). cargo (tree t)) o ≡ message_by 2 bytes
+unfolding message_by
+tree_read o bytes e = ap (λ (x : Option Checked). option_map (λ (t : Checked). cargo (tree t)) x) e
+
+pub head_read : (o : Option (List Column)) (bytes : List ℕ) → o ≡ spelled_by columns_codec bytes → option_map (λ (h : List Column). said (shown (head h))) o ≡ message_by 3 bytes
+unfolding message_by
+head_read o bytes e = ap (λ (x : Option (List Column)). option_map (λ (h : List Column). said (shown (head h))) x) e
+
+pub row_read : (o : Option Row) (bytes : List ℕ) → o ≡ spelled_by row_codec bytes → option_map (λ (r : Row). said (shown (row r))) o ≡ message_by 4 bytes
+unfolding message_by
+row_read o bytes e = ap (λ (x : Option Row). option_map (λ (r : Row). said (shown (row r))) x) e
+
+pub change_read : (o : Option DbChange) (bytes : List ℕ) → o ≡ spelled_by (change_codec most_tree_levels) bytes → option_map (λ (c : DbChange). cargo (change c)) o ≡ message_by 5 bytes
+unfolding message_by
+change_read o bytes e = ap (λ (x : Option DbChange). option_map (λ (c : DbChange). cargo (change c)) x) e
+
+-- the refusal that was read, where some refusal has its number
+abbrev known_as : Option Refusal → Option (Message quel_sorts)
+known_as o = option_map (λ (r : Refusal). said (replied (refused r))) (option_and_then known_refusal o)
+
+refusals_read : (o : Option Refusal) (bytes : List ℕ) → o ≡ spelled_by refusal_codec bytes → known_as o ≡ message_by 7 bytes
+unfolding message_by
+refusals_read o bytes e = ap known_as e
+
+known_by : (r : Refusal) (b : Bool) → is_refusal_number r.code ≡ b → known_as (Some r) ≡ elim b as (λ _. Option (Message quel_sorts)) [ true ↦ Some (said (replied (refused r))) | false ↦ None ]
+known_by r true e = rw e refl
+known_by r false e = rw e refl
+
+pub refusal_read : (r : Refusal) (bytes : List ℕ) → Some r ≡ spelled_by refusal_codec bytes → is_refusal_number r.code ≡ true → Some (said (replied (refused r))) ≡ message_by 7 bytes
+refusal_read r bytes e known = sym (known_by r true known) ∙ refusals_read (Some r) bytes e
+
+pub refusal_unknown : (r : Refusal) (bytes : List ℕ) → Some r ≡ spelled_by refusal_codec bytes → is_refusal_number r.code ≡ false → ◌≡◌ {A = Option (Message quel_sorts)} None (message_by 7 bytes)
+refusal_unknown r bytes e known = sym (known_by r false known) ∙ refusals_read (Some r) bytes e
+
+pub refusal_unread : (bytes : List ℕ) → None ≡ spelled_by refusal_codec bytes → ◌≡◌ {A = Option (Message quel_sorts)} None (message_by 7 bytes)
+refusal_unread bytes e = refusals_read None bytes e
+
+-- ---- a message without bytes, or none
+
+empty_as : (m : StageMessage) (bytes : List ℕ) → option_map message (if_empty m bytes) ≡ if_empty (message m) bytes
+empty_as m [] = refl
+empty_as m (b ∷ bytes) = refl
+
+pub end_read : (o : Option StageMessage) (bytes : List ℕ) → o ≡ if_empty stage.End bytes → option_map message o ≡ message_by 6 bytes
+unfolding message_by
+end_read o bytes e = ap (λ (x : Option StageMessage). option_map message x) e ∙ empty_as stage.End bytes
+
+pub done_read : (o : Option StageMessage) (bytes : List ℕ) → o ≡ if_empty stage.Done bytes → option_map message o ≡ message_by 8 bytes
+unfolding message_by
+done_read o bytes e = ap (λ (x : Option StageMessage). option_map message x) e ∙ empty_as stage.Done bytes
+
+pub quit_read : (o : Option StageMessage) (bytes : List ℕ) → o ≡ if_empty stage.Quit bytes → option_map message o ≡ message_by 10 bytes
+unfolding message_by
+quit_read o bytes e = ap (λ (x : Option StageMessage). option_map message x) e ∙ empty_as stage.Quit bytes
+
+-- ---- no message at all
+
+pub other_read : (kind : ℕ) (bytes : List ℕ) → (kind == 1) ≡ false → (kind == 2) ≡ false → (kind == 3) ≡ false → (kind == 4) ≡ false → (kind == 5) ≡ false → (kind == 6) ≡ false → (kind == 7) ≡ false → (kind == 8) ≡ false → (kind == 10) ≡ false
+    → ◌≡◌ {A = Option (Message quel_sorts)} None (message_by kind bytes)
+unfolding message_by
+other_read kind bytes e1 e2 e3 e4 e5 e6 e7 e8 e10 = rw (e1, e2, e3, e4, e5, e6, e7, e8, e10) refl
