@@ -149,6 +149,11 @@ spelled_from user m is = is
 pub by_spelled : (user : User) (kind : ℕ) (bytes : List ℕ) (m : Message quel_sorts) → message_by kind bytes ≡ Some m → Spelled (quel user) m
 by_spelled user kind bytes m e = spelled_for user m (by_only kind bytes m e).spelled
 
+-- a refusal that is read has a number that refusals have
+pub refused_known : (r : Refusal) (kind : ℕ) (bytes : List ℕ) → message_by kind bytes ≡ Some (said (replied (refused r))) → HasSpelling r
+unfolding payload_of message_by
+refused_known r kind bytes e = refused_only r (by_only kind bytes (said (replied (refused r))) e).spelled
+
 -- ---- values that fit
 
 pub tree_by : (t : Checked) (bytes : List ℕ) → (checked_codec most_tree_levels).Fits t → bytes ≡ (checked_codec most_tree_levels).write t → message_by 2 bytes ≡ Some (cargo (tree t))
