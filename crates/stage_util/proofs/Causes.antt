@@ -1,5 +1,5 @@
 -- When each fault may come.
-use Rattle.std.proofs.Common.{◌≡◌, ◌≤◌, refl, sym, ap, subst, ◌∙◌, ℕ, None, Option, Result, Ok, Err, IsErrOf, arith}
+use Rattle.std.proofs.Common.{◌≡◌, ◌≤◌, refl, sym, ap, subst, ◌∙◌, ℕ, List, None, Option, Result, Ok, Err, IsErrOf, arith}
 use Rattle.base_trait.specs.Causes.{HasCause, MayCome}
 use Rattle.base_trait.specs.declared.fault.BaseFault.{BaseFault}
 use Rattle.base_trait.specs.declared.fault.BaseFault.TheVariants as base_faults
@@ -10,7 +10,10 @@ use Rattle.copy_util.specs.declared.fault.CopyFault.{CopyFault}
 use Rattle.copy_util.specs.declared.fault.CopyFault.TheVariants as copy
 use Rattle.net_core.specs.declared.fault.WorkFault.{WorkFault}
 use Rattle.net_core.specs.declared.fault.WorkFault.TheVariants as faults
+use Rattle.calculus.specs.declared.request.Utility.{Utility}
 use Rattle.quel_meaning.specs.Copying.{refusal, bad_row}
+use Rattle.utilities.specs.Causes.{MayFail}
+use Rattle.utilities.specs.declared.fault.UtilFault.{UtilFault}
 use Rattle.stage_util.specs.Copying.{NotCopied}
 use Rattle.stage_util.specs.declared.carried.Carried.{Carried}
 use Rattle.stage_util.specs.Laying.{Refuses}
@@ -97,3 +100,12 @@ copy_cause s known n n' n'' m m' (copy.Base f) result c e h =
     (err_cause known n n' m m (of_base f) result h.0 (base_cause known n n' m f (of_base f) refl c.later c.caused)))
 copy_cause s known n n' n'' m m' copy.OutOfMemory result c e h =
     err_cause known n n'' m m' faults.OutOfMemory result h.0 (still_short known n n'' m m' (e ∙ c.caused) (unshelved known n n' m m' copy.OutOfMemory c (λ x. cc x)))
+
+-- ---- of plans
+
+-- the same fault
+pub may_as : (user : List ℕ) (work : Utility) (known : Option Db) (n n' : ℕ) (fault is : UtilFault) → fault ≡ is → MayFail user work known known n n' fault → MayFail user work known known n n' is
+may_as user work known n n' fault is e h = subst (λ (f : UtilFault). MayFail user work known known n n' f) e h
+
+pub copy_as : {T : Type 0} (known : Option Db) (n n' m m' : ℕ) (fault is : CopyFault) → fault ≡ is → HasCopyCause {T = T} known n n' m m' (Err fault) → HasCopyCause {T = T} known n n' m m' (Err is)
+copy_as {T = T} known n n' m m' fault is e h = subst (λ (f : CopyFault). HasCopyCause {T = T} known n n' m m' (Err f)) e h
