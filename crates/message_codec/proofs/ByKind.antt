@@ -48,9 +48,12 @@ refusals_read : (o : Option Refusal) (bytes : List ℕ) → o ≡ spelled_by ref
 unfolding message_by
 refusals_read o bytes e = ap known_as e
 
-known_by : (r : Refusal) (b : Bool) → is_refusal_number r.code ≡ b → known_as (Some r) ≡ elim b as (λ _. Option (Message quel_sorts)) [ true ↦ Some (said (replied (refused r))) | false ↦ None ]
-known_by r true e = rw e refl
-known_by r false e = rw e refl
+-- a refusal as a message, where this holds
+abbrev told : Refusal → Bool → Option (Message quel_sorts)
+told r b = option_map (λ (x : Refusal). said (replied (refused x))) (elim b as (λ _. Option Refusal) [ true ↦ Some r | false ↦ None ])
+
+known_by : (r : Refusal) (b : Bool) → is_refusal_number r.code ≡ b → known_as (Some r) ≡ told r b
+known_by r b e = ap (λ (x : Bool). told r x) e
 
 pub refusal_read : (r : Refusal) (bytes : List ℕ) → Some r ≡ spelled_by refusal_codec bytes → is_refusal_number r.code ≡ true → Some (said (replied (refused r))) ≡ message_by 7 bytes
 refusal_read r bytes e known = sym (known_by r true known) ∙ refusals_read (Some r) bytes e
@@ -81,7 +84,14 @@ quit_read o bytes e = ap (λ (x : Option StageMessage). option_map message x) e 
 
 -- ---- no message at all
 
+-- a test that fails picks the second
+passes : {A : Type 0} (b : Bool) (x y z : Option A) → b ≡ false → y ≡ z → ◌≡◌ {A = Option A} (elim b [ true ↦ x | false ↦ y ]) z
+passes true x y z e h = absurd (cc e)
+passes false x y z e h = h
+
 pub other_read : (kind : ℕ) (bytes : List ℕ) → (kind == 1) ≡ false → (kind == 2) ≡ false → (kind == 3) ≡ false → (kind == 4) ≡ false → (kind == 5) ≡ false → (kind == 6) ≡ false → (kind == 7) ≡ false → (kind == 8) ≡ false → (kind == 10) ≡ false
-    → ◌≡◌ {A = Option (Message quel_sorts)} None (message_by kind bytes)
+    → ◌≡◌ {A = Option (Message quel_sorts)} (message_by kind bytes) None
 unfolding message_by
-other_read kind bytes e1 e2 e3 e4 e5 e6 e7 e8 e10 = rw (e1, e2, e3, e4, e5, e6, e7, e8, e10) refl
+other_read kind bytes e1 e2 e3 e4 e5 e6 e7 e8 e10 =
+    passes (kind == 1) _ _ None e1 (passes (kind == 2) _ _ None e2 (passes (kind == 3) _ _ None e3 (passes (kind == 4) _ _ None e4 (passes (kind == 5) _ _ None e5
+    (passes (kind == 6) _ _ None e6 (passes (kind == 7) _ _ None e7 (passes (kind == 8) _ _ None e8 (passes (kind == 10) _ _ None e10 refl))))))))

@@ -20,7 +20,7 @@ cut_counted (suc n) kind bytes = ap (λ (k : ℕ). suc k) (cut_counted n kind (d
 -- as many as its bytes fill, and one
 pub frames_counted : (m : Message) → length (frames_in m) ≡ length m.bytes / 4096 + 1
 unfolding message_frames
-frames_counted m = let h = cut_counted (length m.bytes / 4096) m.kind m.bytes in omega (arith, h)
+frames_counted m = let h : length (frames_in m) ≡ suc (length m.bytes / 4096) = cut_counted (length m.bytes / 4096) m.kind m.bytes in omega (arith, h)
 
 -- so it has some
 pub some_frames : (m : Message) → frames_in m ≡ [] → ⊥
@@ -38,7 +38,7 @@ kinds_behind (n ∷ ms) m h k = (h.0, kinds_behind ms m h.1 k)
 
 empty_of_length : {A : Type 0} (xs : List A) → length xs ≡ 0 → xs ≡ []
 empty_of_length [] e = refl
-empty_of_length (x ∷ xs) e = absurd (cc e)
+empty_of_length (x ∷ xs) e = absurd (omega (arith, e))
 
 -- nothing waits where both parts are empty
 both_empty : (xs ys : List Frame) → xs ++ ys ≡ [] → xs ≡ []

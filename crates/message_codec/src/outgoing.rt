@@ -98,16 +98,16 @@ fn next_of(
     ensures stays { IfOk result (λ next. IfNone next (rest_of begun.new ≡ [])) }
     ensures err { OnErr result (rest_of begun.new ≡ rest_of begun.old) }
 {
-    let Some(frames) = begun else {
-        return Ok(None);
-    };
-    match frames.next() {
-        Ok(Some(frame)) => {
-            *left -= 1;
-            Ok(Some(frame))
-        }
-        Ok(None) => Ok(None),
-        Err(fault) => Err(fault),
+    match begun {
+        Some(frames) => match frames.next() {
+            Ok(Some(frame)) => {
+                *left -= 1;
+                Ok(Some(frame))
+            }
+            Ok(None) => Ok(None),
+            Err(fault) => Err(fault),
+        },
+        None => Ok(None),
     }
 }
 

@@ -80,14 +80,17 @@ pub(crate) fn copy_into_done<B: Base, H: Shelf>(
     ensures frames { IfOk result (λ answer. out.new ≡ out.old ++ frames_of answer) }
     ensures cause { HasWorkCause (B.database base.old) (B.faults base.old) (B.faults base.new) (H.faults shelf.old) (H.faults shelf.new) result }
 {
-    let mut done = Outgoing::new(alloc);
-    let answer = put_done(alloc, &mut done)?;
-    match copy_into(alloc, base, shelf, user, work) {
-        Ok(()) => {
-            hand_over(base);
-            *out = done;
-            Ok(answer)
-        }
-        Err(fault) => not_copied(alloc, base, fault, out),
+    match put_done(alloc, out) {
+        Ok(answer) => match copy_into(alloc, base, shelf, user, work) {
+            Ok(()) => {
+                hand_over(base);
+                Ok(answer)
+            }
+            Err(fault) => {
+                *out = Outgoing::new(alloc);
+                not_copied(alloc, base, fault, out)
+            }
+        },
+        Err(_) => Err(WorkFault::OutOfMemory),
     }
 }

@@ -5,19 +5,19 @@ use Rattle.stage_util.proofs.Results.{into_refuses, into_spares, not_copied_carr
 use Rattle.stage_util.specs.Working.{span}
 use Rattle.stage_util.proofs.copying.copy_into_done.Goals as goal
 
-pub returns-in_err-answer-clause-done : goal.returns-in_err-answer-clause-done
-returns-in_err-answer-clause-done g c = λ b asked.
+pub returns-in-Err-clause-done-first : goal.returns-in-Err-clause-done-first
+returns-in-Err-clause-done-first g c = λ b asked.
     short_not c.args.user.now (work_of c.args.work.now) (span g.B.Base.database g.B.Base.schema g.B.Base.clock g.B.Base.left_since b c.args.base.now) (g.H.Shelf.files c.args.shelf.now) (record { same = (g.B.Base.asks_keep b c.args.base.now asked).0; crash = (g.B.Base.asks b c.args.base.now asked).nothing_else })
 
-pub returns-in-Ok-clause-done : goal.returns-in-Ok-clause-done
-returns-in-Ok-clause-done g c = λ b asked.
+pub returns-in-Ok-copy_into-clause-done : goal.returns-in-Ok-copy_into-clause-done
+returns-in-Ok-copy_into-clause-done g c = λ b asked.
     let same = (g.B.Base.asks_keep b c.args.base.now asked).0 in
-    stored_carries c.args.user.now c.args.work.now c.requires.copies (span g.B.Base.database g.B.Base.schema g.B.Base.clock g.B.Base.left_since b c.hand_over.new.base) (g.H.Shelf.files c.args.shelf.now) (g.H.Shelf.files c.copy_into.new.shelf) c.in_ok-answer.answer tt c.in_ok-answer.ensures.done (λ db e. c.requires.fits db (same ∙ e))
+    stored_carries c.args.user.now c.args.work.now c.requires.copies (span g.B.Base.database g.B.Base.schema g.B.Base.clock g.B.Base.left_since b c.hand_over.new.base) (g.H.Shelf.files c.args.shelf.now) (g.H.Shelf.files c.copy_into.new.shelf) c.in-Ok.answer tt c.in-Ok.ensures.done (λ db e. c.requires.fits db (same ∙ e))
     (λ db fs e f. c.in-Ok.ensures.known db fs (same ∙ e) f c.requires.copies) (c.hand_over.ensures.kept b (c.in-Ok.ensures.asked b asked))
 
 pub returns-in-Ok-clause-cause : goal.returns-in-Ok-clause-cause
 returns-in-Ok-clause-cause g c =
-    still_ok (g.B.Base.database c.args.base.now) (g.B.Base.faults c.args.base.now) (g.B.Base.faults c.hand_over.new.base) (g.H.Shelf.faults c.args.shelf.now) (g.H.Shelf.faults c.copy_into.new.shelf) c.in_ok-answer.answer
+    still_ok (g.B.Base.database c.args.base.now) (g.B.Base.faults c.args.base.now) (g.B.Base.faults c.hand_over.new.base) (g.H.Shelf.faults c.args.shelf.now) (g.H.Shelf.faults c.copy_into.new.shelf) c.in-Ok.answer
     (c.hand_over.ensures.faults ∙ c.in-Ok.ensures.cause.caused) (c.in-Ok.ensures.cause.otherwise (λ x. cc x))
 
 pub returns-in-Err-clause-done : goal.returns-in-Err-clause-done
