@@ -249,8 +249,8 @@ pub handed_ok : (name : List ℕ) (here : At) (got out got' out' : List Frame) (
 handed_ok name here got out got' out' o a c work d = λ works turn away. at_ok name here o a c (is_working here got out work).holds d (λ x h. h.handed)
 
 quiet_at : (here : At) (o o' : Outside) → IsHolding here → QuietWithout (standing here [] []) o o'
-quiet_at (at.Tree t) o o' holds k without = absurd (cc without)
-quiet_at (at.Change c) o o' holds k without = absurd (cc without)
+quiet_at (at.Tree t) o o' holds = λ k without. absurd (cc without)
+quiet_at (at.Change c) o o' holds = λ k without. absurd (cc without)
 quiet_at at.Idle o o' holds = absurd holds
 quiet_at at.Ended o o' holds = absurd holds
 
@@ -265,7 +265,7 @@ counts_both o n m = record { base = n; shelf = m; source = o.source_faults; sink
 same_counts : (o : Outside) (a : After) → a.base_faults ≡ o.base_faults → a.shelf_faults ≡ o.shelf_faults → counts (outside_after o a) ≡ counts o
 same_counts o a e f = ap (λ (n : ℕ). counts_both o n a.shelf_faults) e ∙ ap (λ (m : ℕ). counts_both o o.base_faults m) f
 
-pub counts_ok : (o : Outside) (a : After) (c : Carried) → HasWorkCause o.database o.base_faults a.base_faults o.shelf_faults a.shelf_faults (Ok {E = WorkFault} c) → counts (outside_after o a) ≡ counts o
+pub counts_ok : (o : Outside) (a : After) (c : Carried) → HasWorkCause o.database o.base_faults a.base_faults o.shelf_faults a.shelf_faults (Ok c) → counts (outside_after o a) ≡ counts o
 counts_ok o a c h = same_counts o a h.caused.0 h.caused.1
 
 counts_by : (o : Outside) (a : After) (f : WorkFault) → MayComeHere o.database o.base_faults a.base_faults o.shelf_faults a.shelf_faults f → CountsOnlyBy o (outside_after o a) f

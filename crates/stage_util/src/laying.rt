@@ -41,9 +41,9 @@ fn apply<B: Base>(
     answer: Carried,
 ) -> Result<Carried, WorkFault>
     requires lawful { (db : Db) → B.database base.old ≡ Some db → IsLawful db change.now }
-    requires answer { answer ≡ Done }
+    requires is_done { answer ≡ Done }
     ensures done { (b : B) → B.asked b base.old → Lays change.now (span B.database B.schema B.clock B.left_since b base.new) result }
-    ensures answer { IfOk result (λ given. given ≡ answer) }
+    ensures same { IfOk result (λ given. given ≡ answer) }
     ensures cause { HasWorkCause (B.database base.old) (B.faults base.old) (B.faults base.new) 0 0 result }
 {
     match base.apply(alloc, change) {

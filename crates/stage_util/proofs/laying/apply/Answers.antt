@@ -8,7 +8,7 @@ returns-in-Ok-clause-done g c = λ b asked.
     let h = g.B.Base.asks c.apply.new.self c.hand_over.new.self (c.hand_over.ensures.asked c.apply.new.self (g.B.Base.starts c.apply.new.self)) in
     laid_ok c.args.change.now c.args.answer (g.B.Base.database b) (g.B.Base.database c.args.base.now) (g.B.Base.database c.apply.new.self) (g.B.Base.database c.hand_over.new.self) (g.B.Base.schema c.hand_over.new.self)
     (g.B.Base.clock b) (g.B.Base.clock c.args.base.now) (g.B.Base.clock c.apply.new.self) (g.B.Base.clock c.hand_over.new.self) (g.B.Base.left_since b) (g.B.Base.left_since c.args.base.now) (g.B.Base.left_since c.apply.new.self) (g.B.Base.left_since c.hand_over.new.self)
-    c.requires.answer (g.B.Base.asks_keep b c.args.base.now asked).0 a.nothing_else c.in-Ok.ensures.known c.in-Ok.ensures.crash c.in-Ok.ensures.durable c.hand_over.ensures.kept c.hand_over.ensures.forgotten h.nothing_else (g.B.Base.counts_now c.hand_over.new.self)
+    c.requires.is_done (g.B.Base.asks_keep b c.args.base.now asked).0 a.nothing_else c.in-Ok.ensures.known c.in-Ok.ensures.crash c.in-Ok.ensures.durable c.hand_over.ensures.kept c.hand_over.ensures.forgotten h.nothing_else (g.B.Base.counts_now c.hand_over.new.self)
 
 pub returns-in-Err-clause-done : goal.returns-in-Err-clause-done
 returns-in-Err-clause-done g c = λ b asked.
