@@ -9,16 +9,16 @@ use memory::List;
 use std::alloc::Global;
 
 /// The kind of a batch.
-pub(crate) const TEXT: u8 = 1;
+const TEXT: u8 = 1;
 
 /// The kind of an end.
-pub(crate) const END: u8 = 6;
+const END: u8 = 6;
 
 /// The kind of what says that a statement was carried out.
-pub(crate) const DONE: u8 = 8;
+const DONE: u8 = 8;
 
 /// The kind of a quit.
-pub(crate) const QUIT: u8 = 10;
+const QUIT: u8 = 10;
 
 /// A batch.
 #[tactic(auto, unfolding(quel_network::specs::Spelling::message_by))]

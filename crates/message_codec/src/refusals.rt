@@ -14,7 +14,7 @@ use std::alloc::Global;
 use tree_words::{Fault, Reader, Spelled, Spelling, fields3};
 
 /// The kind of a refusal.
-pub(crate) const REFUSED: u8 = 7;
+const REFUSED: u8 = 7;
 
 /// The numbers that refusals have.
 const NUMBERS: [u8; 26] = [
