@@ -1,6 +1,6 @@
 -- Rows that some database has, and what a copy of them leaves on the shelf.
 use Rattle.std.proofs.Common.{◌≡◌, ◌+◌, refl, sym, ap, ◌∙◌, subst, ℕ, Bool, true, false, ◌||◌, cond, List, [], ◌∷◌, length, Some, None, Result, Ok, Err, IsErrOf, arith}
-use Rattle.std.specs.Prelude.{codes, is_some}
+use Rattle.std.specs.Prelude.{IfOk, codes, is_some}
 use Rattle.std.specs.declared.option.Option.{Option}
 use Rattle.std.specs.List.{find}
 use Rattle.calculus.specs.declared.query.RelKey.{RelKey}
@@ -20,7 +20,9 @@ use Rattle.quel_meaning.specs.Planned.{is_not_the_owner, owner_refusals}
 use Rattle.copy_util.proofs.Copied.{into_made}
 use Rattle.copy_util.specs.declared.fault.CopyFault.{CopyFault}
 use Rattle.copy_util.specs.declared.fault.CopyFault.TheVariants.{No, BadRow, NoFile, Shelf, Base, OutOfMemory}
+use Rattle.copy_util.specs.Reading.{up_to_bad}
 use Rattle.copy_util.specs.Stored.{IsStored, MayBeCopied, SparesFiles}
+use Rattle.copy_util.specs.Writing.{IsFileOfRows}
 
 -- ---- a database with these rows under a key that is no catalogue's
 
@@ -68,6 +70,11 @@ may_be_copied user rel columns rows bytes owner made = (
   db_of rel rows,
   into_made (db_of rel rows) user rel columns bytes (unrefused user rel rows owner) (ap (file_of_rows columns) (rows_stand rel rows) ∙ made),
 )
+
+-- the rows that were put are some rows
+pub some_rows : {E : Type 0} (columns : List CopyCol) (rows : List Row) (bytes : List ℕ) (bad : Option ℕ) (r : Result (Option ℕ) E) → file_of_rows columns rows ≡ up_to_bad bytes bad → IfOk r (λ number. number ≡ bad) → IfOk r (λ number. IsFileOfRows columns bytes number)
+some_rows columns rows bytes bad (Ok number) made same = (rows, made ∙ ap (up_to_bad bytes) (sym same))
+some_rows columns rows bytes bad (Err e) made same = tt
 
 -- ---- what is left on the shelf
 
