@@ -24,21 +24,45 @@ pub text_read : (bytes : List ℕ) → ◌≡◌ {A = Option (Message quel_sorts
 unfolding message_by
 text_read bytes = refl
 
-pub tree_read : (o : Option Checked) (bytes : List ℕ) → o ≡ spelled_by (checked_codec most_tree_levels) bytes → option_map (λ (t : Checked). cargo (tree t)) o ≡ message_by 2 bytes
+tree_read : (o : Option Checked) (bytes : List ℕ) → o ≡ spelled_by (checked_codec most_tree_levels) bytes → option_map (λ (x : Checked). cargo (tree x)) o ≡ message_by 2 bytes
 unfolding message_by
-tree_read o bytes e = ap (λ (x : Option Checked). option_map (λ (t : Checked). cargo (tree t)) x) e
+tree_read o bytes e = ap (λ (y : Option Checked). option_map (λ (x : Checked). cargo (tree x)) y) e
 
-pub head_read : (o : Option (List Column)) (bytes : List ℕ) → o ≡ spelled_by columns_codec bytes → option_map (λ (h : List Column). said (shown (head h))) o ≡ message_by 3 bytes
-unfolding message_by
-head_read o bytes e = ap (λ (x : Option (List Column)). option_map (λ (h : List Column). said (shown (head h))) x) e
+pub tree_came : (o : Option Checked) (x y : Checked) (bytes : List ℕ) → o ≡ spelled_by (checked_codec most_tree_levels) bytes → o ≡ Some x → y ≡ x → ◌≡◌ {A = Option (Message quel_sorts)} (Some (cargo (tree y))) (message_by 2 bytes)
+tree_came o x y bytes e is same = ap (λ (z : Checked). Some (cargo (tree z))) same ∙ tree_read (Some x) bytes (sym is ∙ e)
 
-pub row_read : (o : Option Row) (bytes : List ℕ) → o ≡ spelled_by row_codec bytes → option_map (λ (r : Row). said (shown (row r))) o ≡ message_by 4 bytes
-unfolding message_by
-row_read o bytes e = ap (λ (x : Option Row). option_map (λ (r : Row). said (shown (row r))) x) e
+pub tree_none : (o : Option Checked) (bytes : List ℕ) → o ≡ spelled_by (checked_codec most_tree_levels) bytes → o ≡ None → ◌≡◌ {A = Option (Message quel_sorts)} None (message_by 2 bytes)
+tree_none o bytes e is = tree_read None bytes (sym is ∙ e)
 
-pub change_read : (o : Option DbChange) (bytes : List ℕ) → o ≡ spelled_by (change_codec most_tree_levels) bytes → option_map (λ (c : DbChange). cargo (change c)) o ≡ message_by 5 bytes
+head_read : (o : Option (List Column)) (bytes : List ℕ) → o ≡ spelled_by columns_codec bytes → option_map (λ (x : List Column). said (shown (head x))) o ≡ message_by 3 bytes
 unfolding message_by
-change_read o bytes e = ap (λ (x : Option DbChange). option_map (λ (c : DbChange). cargo (change c)) x) e
+head_read o bytes e = ap (λ (y : Option (List Column)). option_map (λ (x : List Column). said (shown (head x))) y) e
+
+pub head_came : (o : Option (List Column)) (x y : List Column) (bytes : List ℕ) → o ≡ spelled_by columns_codec bytes → o ≡ Some x → y ≡ x → ◌≡◌ {A = Option (Message quel_sorts)} (Some (said (shown (head y)))) (message_by 3 bytes)
+head_came o x y bytes e is same = ap (λ (z : List Column). Some (said (shown (head z)))) same ∙ head_read (Some x) bytes (sym is ∙ e)
+
+pub head_none : (o : Option (List Column)) (bytes : List ℕ) → o ≡ spelled_by columns_codec bytes → o ≡ None → ◌≡◌ {A = Option (Message quel_sorts)} None (message_by 3 bytes)
+head_none o bytes e is = head_read None bytes (sym is ∙ e)
+
+row_read : (o : Option Row) (bytes : List ℕ) → o ≡ spelled_by row_codec bytes → option_map (λ (x : Row). said (shown (row x))) o ≡ message_by 4 bytes
+unfolding message_by
+row_read o bytes e = ap (λ (y : Option Row). option_map (λ (x : Row). said (shown (row x))) y) e
+
+pub row_came : (o : Option Row) (x y : Row) (bytes : List ℕ) → o ≡ spelled_by row_codec bytes → o ≡ Some x → y ≡ x → ◌≡◌ {A = Option (Message quel_sorts)} (Some (said (shown (row y)))) (message_by 4 bytes)
+row_came o x y bytes e is same = ap (λ (z : Row). Some (said (shown (row z)))) same ∙ row_read (Some x) bytes (sym is ∙ e)
+
+pub row_none : (o : Option Row) (bytes : List ℕ) → o ≡ spelled_by row_codec bytes → o ≡ None → ◌≡◌ {A = Option (Message quel_sorts)} None (message_by 4 bytes)
+row_none o bytes e is = row_read None bytes (sym is ∙ e)
+
+change_read : (o : Option DbChange) (bytes : List ℕ) → o ≡ spelled_by (change_codec most_tree_levels) bytes → option_map (λ (x : DbChange). cargo (change x)) o ≡ message_by 5 bytes
+unfolding message_by
+change_read o bytes e = ap (λ (y : Option DbChange). option_map (λ (x : DbChange). cargo (change x)) y) e
+
+pub change_came : (o : Option DbChange) (x y : DbChange) (bytes : List ℕ) → o ≡ spelled_by (change_codec most_tree_levels) bytes → o ≡ Some x → y ≡ x → ◌≡◌ {A = Option (Message quel_sorts)} (Some (cargo (change y))) (message_by 5 bytes)
+change_came o x y bytes e is same = ap (λ (z : DbChange). Some (cargo (change z))) same ∙ change_read (Some x) bytes (sym is ∙ e)
+
+pub change_none : (o : Option DbChange) (bytes : List ℕ) → o ≡ spelled_by (change_codec most_tree_levels) bytes → o ≡ None → ◌≡◌ {A = Option (Message quel_sorts)} None (message_by 5 bytes)
+change_none o bytes e is = change_read None bytes (sym is ∙ e)
 
 -- the refusal that was read, where some refusal has its number
 abbrev known_as : Option Refusal → Option (Message quel_sorts)

@@ -1,4 +1,4 @@
 pub mod ByKind
 pub mod Come
 pub mod Queue
-pub mod Values
+pub mod ReadAgain

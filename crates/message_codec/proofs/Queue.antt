@@ -1,5 +1,5 @@
 -- Frames that wait.
-use Rattle.std.specs.Prelude.{◌≡◌, ◌/◌, ◌+◌, ℕ, zero, suc, Bool, true, false, ◌&&◌, List, [], ◌∷◌, ◌++◌, length, drop, Some, None, Option, IfNone, IfOk, IfSome, Result, Ok, Err}
+use Rattle.std.specs.Prelude.{◌≡◌, ◌/◌, ◌+◌, ℕ, zero, suc, Bool, true, false, ◌&&◌, List, [], ◌∷◌, ◌++◌, length, drop, Some, None, Option, OnErr, OnOk, Result, Ok, Err}
 use Rattle.std.specs.List.{flat_map, list_all}
 use Rattle.std.proofs.Common.{refl, sym, ap, subst, ◌∙◌, arith, append_assoc}
 use Rattle.std.proofs.lemmas.Grind.{flat_map-append}
@@ -36,7 +36,7 @@ kinds_behind : (ms : List Message) (m : Message) → HaveKinds ms → is_message
 kinds_behind [] m h k = (k, tt)
 kinds_behind (n ∷ ms) m h k = (h.0, kinds_behind ms m h.1 k)
 
-empty_of_length : {A : Type 0} (xs : List A) → length xs ≡ 0 → xs ≡ []
+pub empty_of_length : {A : Type 0} (xs : List A) → length xs ≡ 0 → xs ≡ []
 empty_of_length [] e = refl
 empty_of_length (x ∷ xs) e = absurd (omega (arith, e))
 
@@ -55,6 +55,15 @@ put_behind begun later later' m e =
     ap (λ (ms : List Message). waiting begun ms) e
     ∙ ap (λ (fs : List Frame). rest_of begun ++ fs) (flat_map-append frames_in later (m ∷ []) ∙ ap (λ (fs : List Frame). flat_map frames_in later ++ fs) (append-nil (frames_in m)))
     ∙ sym (append_assoc (rest_of begun) (flat_map frames_in later) (frames_in m))
+
+-- whether it was put or not
+pub put_any : {E : Type 0} (begun : Option (List Frame)) (left : ℕ) (later later' : List Message) (m : Message) (r : Result (Unit {0}) E) → OnOk r (later' ≡ later ++ m ∷ []) → OnErr r (later' ≡ later) → is_message_kind m.kind ≡ true → Waits begun left later → Waits begun left later'
+put_any begun left later later' m (Ok x) put same k w = put_waits begun left later later' m put k w
+put_any begun left later later' m (Err e) put same k w = subst (λ (ms : List Message). Waits begun left ms) (sym same) w
+
+pub put_ok : {E : Type 0} (begun : Option (List Frame)) (later later' : List Message) (now : List Frame) (m : Message) (r : Result (Unit {0}) E) → waiting begun later ≡ now → OnOk r (later' ≡ later ++ m ∷ []) → OnOk r (waiting begun later' ≡ now ++ frames_in m)
+put_ok begun later later' now m (Ok x) view put = put_behind begun later later' m put ∙ ap (λ (fs : List Frame). fs ++ frames_in m) view
+put_ok begun later later' now m (Err e) view put = tt
 
 -- ---- the next message is begun
 

@@ -95,11 +95,7 @@ fn read_last(alloc: Global, frames: &[Frame], last: &Frame) -> Result<Came, OutO
 }
 
 /// The bytes behind those of these frames, which are moved where there are none.
-fn pass_behind(
-    alloc: Global,
-    frames: &[Frame],
-    last: List<u8>,
-) -> Result<List<u8>, OutOfMemory>
+fn pass_behind(alloc: Global, frames: &[Frame], last: List<u8>) -> Result<List<u8>, OutOfMemory>
     ensures { IfOk result (λ bytes. bytes ≡ payloads frames.now ++ last) }
 {
     if frames.is_empty() {

@@ -4,8 +4,8 @@ ghost use Rattle.std.specs.Prelude.{◌≡◌, IfOk, option_map};
 ghost use Rattle.message_codec.specs.Messages.{message};
 ghost use Rattle.quel_network.specs.Spelling.{if_empty, message_by};
 
-use crate::again::value_of;
 use crate::refusals::{RefusalTree, is_refusal_number};
+use crate::values::value_of;
 use calculus::{Checked, Column, DbChange, Refusal, Row};
 use memory::{Boxed, List, OutOfMemory};
 use quel_tree::{CheckedTree, ColumnsTree, DbChangeTree, RowTree};
@@ -44,7 +44,6 @@ fn text_of(alloc: Global, bytes: &[u8]) -> Result<Option<StageMessage>, OutOfMem
 }
 
 /// A tree, where the bytes spell one.
-#[tactic(auto, using(crate::proofs::ByKind::tree_read))]
 fn tree_of(alloc: Global, bytes: &[u8]) -> Result<Option<StageMessage>, OutOfMemory>
     ensures { IfOk result (λ came. option_map message came ≡ message_by 2 bytes.now) }
 {
@@ -55,7 +54,6 @@ fn tree_of(alloc: Global, bytes: &[u8]) -> Result<Option<StageMessage>, OutOfMem
 }
 
 /// A head, where the bytes spell one.
-#[tactic(auto, using(crate::proofs::ByKind::head_read))]
 fn head_of(alloc: Global, bytes: &[u8]) -> Result<Option<StageMessage>, OutOfMemory>
     ensures { IfOk result (λ came. option_map message came ≡ message_by 3 bytes.now) }
 {
@@ -66,7 +64,6 @@ fn head_of(alloc: Global, bytes: &[u8]) -> Result<Option<StageMessage>, OutOfMem
 }
 
 /// A row, where the bytes spell one.
-#[tactic(auto, using(crate::proofs::ByKind::row_read))]
 fn row_of(alloc: Global, bytes: &[u8]) -> Result<Option<StageMessage>, OutOfMemory>
     ensures { IfOk result (λ came. option_map message came ≡ message_by 4 bytes.now) }
 {
@@ -77,7 +74,6 @@ fn row_of(alloc: Global, bytes: &[u8]) -> Result<Option<StageMessage>, OutOfMemo
 }
 
 /// A change, where the bytes spell one.
-#[tactic(auto, using(crate::proofs::ByKind::change_read))]
 fn change_of(alloc: Global, bytes: &[u8]) -> Result<Option<StageMessage>, OutOfMemory>
     ensures { IfOk result (λ came. option_map message came ≡ message_by 5 bytes.now) }
 {

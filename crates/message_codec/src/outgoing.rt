@@ -57,6 +57,13 @@ fn push_behind<T: Drop>(items: &mut VecDeque<T>, item: T) -> Result<(), OutOfMem
     }
 }
 
+/// Whether no item waits.
+fn is_over<T>(items: &VecDeque<T>) -> bool
+    ensures { IsTrue result ↔ (items.now.items ≡ []) }
+{
+    items.is_empty()
+}
+
 /// How many frames a message has.
 #[tactic(auto, using(crate::proofs::Queue::frames_counted))]
 fn frame_count(message: &Message) -> usize
@@ -148,7 +155,7 @@ impl Outgoing {
     pub fn is_empty(&self) -> bool
         ensures { IsTrue result ↔ (self.now ≡ []) }
     {
-        self.left == 0 && self.later.is_empty()
+        self.left == 0 && is_over(&self.later)
     }
 
     /// The frames of a message behind these.

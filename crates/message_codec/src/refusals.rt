@@ -1,6 +1,6 @@
 //! Refusals as bytes.
 
-ghost use Rattle.std.specs.Prelude.{◌≡◌, false, IfNone, IfOk, IfSome};
+ghost use Rattle.std.specs.Prelude.{◌≡◌, false, true, IfNone, IfOk, IfSome};
 ghost use Rattle.message_codec.specs.Messages.{IsMessageOf};
 ghost use Rattle.network_meaning.specs.Sorts.{Message.said, Reply.refused, Said.replied};
 ghost use Rattle.quel_network.specs.CodecLaws.{refusal_exact};
@@ -56,6 +56,19 @@ pub(crate) fn is_refusal_number(code: u8) -> bool
     table.iter().any(|number| *number == code)
 }
 
+/// The message of a refusal with this number, which refusals have, this line and this row.
+fn refusal_of(alloc: Global, code: u8, line: u32, row: u32) -> Result<Message, OutOfMemory>
+    requires { is_refusal_number code ≡ true }
+    ensures is { IfOk result (λ m. IsMessageOf (said (replied (refused (record { code = code; line = line; row = row })))) m.kind m.bytes) }
+    ensures kind { IfOk result (λ m. m.kind ≡ 7) }
+{
+    let bytes = tree_bytes::<RefusalTree>(alloc, &Refusal { code, line, row })?;
+    Ok(Message {
+        kind: REFUSED,
+        bytes: List::of(bytes),
+    })
+}
+
 /// The refusal as a message; none where no refusal has its number.
 pub fn refusal_message(alloc: Global, refusal: Refusal) -> Result<Option<Message>, OutOfMemory>
     ensures some { IfOk result (λ found. IfSome found (λ m. IsMessageOf (said (replied (refused refusal))) m.kind m.bytes)) }
@@ -65,9 +78,6 @@ pub fn refusal_message(alloc: Global, refusal: Refusal) -> Result<Option<Message
     if !is_refusal_number(refusal.code) {
         return Ok(None);
     }
-    let bytes = tree_bytes::<RefusalTree>(alloc, &refusal)?;
-    Ok(Some(Message {
-        kind: REFUSED,
-        bytes: List::of(bytes),
-    }))
+    let message = refusal_of(alloc, refusal.code, refusal.line, refusal.row)?;
+    Ok(Some(message))
 }

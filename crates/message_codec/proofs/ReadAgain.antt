@@ -21,11 +21,11 @@ none_read {A = A} codec bytes f at exact is only = go (spelled_by (codec most_tr
     go None e = sym e
     go (Some a) e = absurd (subst (λ (x : TreeFault). IsGiven {A = A} (Err x) a) is (only a (only_spelled (codec most_tree_levels) exact bytes a e)))
 
-pub again_is : {A : Type 0} (codec : ℕ → Codec A) (value sent : A) (bytes given : List ℕ) → given ≡ bytes → IsSpelled codec sent given → ((codec most_tree_levels).Fits value → IsSpelled codec value bytes)
-    → ((tree : A) → IsSpelled codec tree given → IsGiven {A = A} (Ok sent) tree) → IsAgain (codec most_tree_levels) value sent bytes
-again_is {A = A} codec value sent bytes given e found written only = record {
+pub again_is : {A : Type 0} (codec : ℕ → Codec A) (value sent : A) (bytes listed given : List ℕ) → listed ≡ bytes → given ≡ bytes → IsSpelled codec sent given → ((codec most_tree_levels).Fits value → IsSpelled codec value bytes)
+    → ((tree : A) → IsSpelled codec tree given → IsGiven {A = A} (Ok sent) tree) → IsAgain (codec most_tree_levels) value sent listed
+again_is {A = A} codec value sent bytes listed given same e found written only = record {
   fits = found.0;
-  bytes_are = sym e ∙ found.1;
+  bytes_are = same ∙ (sym e ∙ found.1);
   same = λ fits. only value (subst (λ (bs : List ℕ). IsSpelled codec value bs) (sym e) (written fits));
 }
 
