@@ -1,18 +1,18 @@
 -- Rows that some database has, and what a copy of them leaves on the shelf.
 use Rattle.std.proofs.Common.{◌≡◌, ◌+◌, refl, sym, ap, ◌∙◌, subst, ℕ, Bool, true, false, ◌||◌, cond, List, [], ◌∷◌, length, Some, None, Result, Ok, Err, IsErrOf, arith}
-use Rattle.std.specs.Prelude.{IfOk, codes, is_some}
+use Rattle.std.specs.Prelude.{IfOk, codes, is_some, option_map}
 use Rattle.std.specs.declared.option.Option.{Option}
 use Rattle.std.specs.List.{find}
 use Rattle.calculus.specs.declared.query.RelKey.{RelKey}
 use Rattle.calculus.specs.declared.reply.Refusal.{Refusal}
 use Rattle.calculus.specs.declared.request.CopyCol.{CopyCol}
 use Rattle.calculus.specs.declared.schema.Spec.TheVariants.{Heap}
-use Rattle.calculus.specs.Catalogue.{is_catalogue, relation_key, attribute_key}
-use Rattle.calculus.specs.Database.{Db, Relation, relation_at}
+use Rattle.calculus.specs.Catalogue.{attribute_key, catalogue_at, is_catalogue, relation_key}
+use Rattle.calculus.specs.Database.{Db, Relation, relation_at, view_at}
 use Rattle.calculus.specs.Keys.{key_of, same_key}
 use Rattle.calculus.specs.Replacement.{first_refusal}
 use Rattle.calculus.specs.Rows.{Row}
-use Rattle.calculus.specs.Stored.{Range, Kept, kept_rows, range_at, rows_at}
+use Rattle.calculus.specs.Stored.{Range, Kept, Viewed, kept_rows, range_at, rows_at}
 use Rattle.fault_io.specs.Files.{Files, stored}
 use Rattle.quel_meaning.proofs.Keys.{keys_same, same_keys}
 use Rattle.quel_meaning.specs.Copying.{copied_into, file_of_rows}
@@ -48,9 +48,16 @@ no_catalogue rel rows = rw (other_owner rel (codes "relation")) (other_owner rel
 stands : (rel : RelKey) (rows : List Row) → relation_at (db_of rel rows) rel ≡ Some (relation_of rel rows)
 stands rel rows = ap (λ (b : Bool). cond b (Some (relation_of rel rows)) None) (keys_same rel rel refl)
 
+-- what stands under a key, by the relation that is there
+abbrev ranged_as : Db → RelKey → Option Relation → Option Range
+ranged_as db rel o = elim o as (λ _. Option Range) [
+  | Some relation ↦ Some (Kept relation)
+  | None ↦ elim (view_at db rel) as (λ _. Option Range) [ Some view ↦ Some (Viewed view) | None ↦ option_map Kept (catalogue_at db rel) ]
+]
+
 ranged_by : (db : Db) (rel : RelKey) (r : Relation) → relation_at db rel ≡ Some r → range_at db rel ≡ Some (Kept r)
 unfolding range_at
-ranged_by db rel r e = rw e refl
+ranged_by db rel r e = ap (ranged_as db rel) e
 
 rows_stand : (rel : RelKey) (rows : List Row) → rows_at (db_of rel rows) rel ≡ rows
 rows_stand rel rows = ap (λ (o : Option Range). kept_rows o) (ranged_by (db_of rel rows) rel (relation_of rel rows) (stands rel rows))
