@@ -35,7 +35,7 @@ refused_by db files r = record { db = db; shelf = files; reply = reply.Refused r
 
 -- this change was laid
 abbrev pub changed_by : Db → Files → DbChange → Effect
-changed_by db files change = record { db = laid db change; shelf = files; reply = reply.Done }
+changed_by db files c = record { db = laid db c; shelf = files; reply = reply.Done }
 
 effect_is : (user : List ℕ) (work : Utility) (db : Db) (files : Files) → effect user (work_of work) db files ≡ utility_effect db files user work
 unfolding tree_meaning
@@ -49,7 +49,7 @@ plan_effect db files user work h = refl
 -- ---- plans
 
 pub planned_effect : (user : List ℕ) (work : Utility) (db : Db) (files : Files) (change : DbChange) → is_copy work ≡ false → planned db user work ≡ Ok change → effect user (work_of work) db files ≡ changed_by db files change
-planned_effect user work db files change none e = effect_is user work db files ∙ plan_effect db files user work none ∙ ap (numbered_effect db files) e
+planned_effect user work db files c none e = effect_is user work db files ∙ plan_effect db files user work none ∙ ap (numbered_effect db files) e
 
 pub unplanned_effect : (user : List ℕ) (work : Utility) (db : Db) (files : Files) (number : ℕ) → is_copy work ≡ false → planned db user work ≡ Err number → effect user (work_of work) db files ≡ refused_by db files (refusal number)
 unplanned_effect user work db files number none e = effect_is user work db files ∙ plan_effect db files user work none ∙ ap (numbered_effect db files) e
@@ -62,7 +62,7 @@ module _ (user : List ℕ) (work : Utility) (db : Db) (files : Files) where
   from_effect c = ap (utility_effect db files user) c.is
 
   pub from_done : (c : IsCopy work true) (change : DbChange) → copied_from db files user c.rel c.columns c.constant ≡ Ok change → effect user (work_of work) db files ≡ changed_by db files change
-  from_done c change e = effect_is user work db files ∙ from_effect c ∙ ap (change_effect db files) e
+  from_done c laying e = effect_is user work db files ∙ from_effect c ∙ ap (change_effect db files) e
 
   pub from_refused : (c : IsCopy work true) (r : Refusal) → copied_from db files user c.rel c.columns c.constant ≡ Err r → effect user (work_of work) db files ≡ refused_by db files r
   from_refused c r e = effect_is user work db files ∙ from_effect c ∙ ap (change_effect db files) e

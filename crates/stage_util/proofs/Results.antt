@@ -1,5 +1,6 @@
 -- What carrying something out comes to, by how its work ended.
-use Rattle.std.proofs.Common.{◌≡◌, ◌⊎◌, inl, inr, refl, sym, ap, subst, ◌∙◌, ℕ, Bool, true, false, List, Some, Option, Result, Ok, Err}
+use Rattle.std.specs.Prelude.{IfNone}
+use Rattle.std.proofs.Common.{◌≡◌, ◌⊎◌, inl, inr, refl, sym, ap, subst, ◌∙◌, ℕ, Bool, true, false, List, Some, None, Option, Result, Ok, Err}
 use Rattle.std.proofs.lemmas.Option.{same_Some}
 use Rattle.base_trait.proofs.Crashes.{asked_leaves, leaves_as}
 use Rattle.base_trait.specs.Crashes.{AllDenote}
@@ -21,16 +22,18 @@ use Rattle.fault_io.specs.Files.{Files, stored}
 use Rattle.fault_io.specs.Shelves.{MayHaveStored}
 use Rattle.net_core.specs.declared.fault.WorkFault.{WorkFault}
 use Rattle.net_core.specs.declared.fault.WorkFault.TheVariants as faults
-use Rattle.network_meaning.specs.Sorts.{Cargo}
+use Rattle.network_meaning.specs.Sorts.{Cargo, Cargo.change}
 use Rattle.quel_meaning.specs.Copying.{bad_row, copied_from, copied_into, file_of_constant, refusal}
 use Rattle.quel_network.specs.RefusalLaws.{HasSpelling}
 use Rattle.quel_network.specs.Sorts.{quel_sorts}
 use Rattle.stage_util.proofs.Effects.{changed_by, into_done, into_refused, number_known, refused_by, work_of}
 use Rattle.stage_util.specs.Copying.{NotCopied}
+use Rattle.stage_util.specs.declared.at.At.{At}
+use Rattle.stage_util.specs.declared.at.At.TheVariants as at
 use Rattle.stage_util.specs.declared.carried.Carried.{Carried}
 use Rattle.stage_util.specs.declared.carried.Carried.TheVariants as carried
 use Rattle.stage_util.specs.Laying.{Lays, Refuses}
-use Rattle.stage_util.specs.Working.{Carries, Did, DidNot, FitsFor, HandedOver, IsForFour, Kept, Leaves, Makes, MayAnswer, MayStoreOf, SparesDatabase, Span, effect, of_base}
+use Rattle.stage_util.specs.Working.{Carries, CarriesAt, Did, DidNot, FitsFor, HandedOver, IsForFour, Kept, Leaves, Makes, MayAnswer, MayStoreOf, SparesDatabase, Span, effect, of_base}
 
 -- ---- nothing was changed
 
@@ -76,28 +79,28 @@ unfit_not user x s files k unfit = kept_not user x s files files faults.Unlawful
 -- ---- a change was laid
 
 laid_either : (user : List ℕ) (x : Cargo quel_sorts) (db now : Db) (fs : Files) (change : DbChange) → effect user x db fs ≡ changed_by db fs change → (now ≡ db) ⊎ (now ≡ laid db change) → (now ≡ db) ⊎ Makes user x db fs (Some now)
-laid_either user x db now fs change eff (inl e) = inl e
-laid_either user x db now fs change eff (inr e) = inr (laid db change, fs, ap Some e, eff)
+laid_either user x db now fs c eff (inl e) = inl e
+laid_either user x db now fs c eff (inr e) = inr (laid db c, fs, ap Some e, eff)
 
 pub laid_carries : (user : List ℕ) (x : Cargo quel_sorts) (s : Span) (files files' : Option Files) (change : DbChange) (result : Result Carried WorkFault) → files' ≡ files → IsForFour x → ((db : Db) → s.old ≡ Some db → FitsFor user x db)
     → ((db : Db) (fs : Files) → s.old ≡ Some db → files ≡ Some fs → effect user x db fs ≡ changed_by db fs change) → Lays change s result → Carries user x s files files' result
-laid_carries user x s files files' change (Ok answer) stays four fits eff h = record {
+laid_carries user x s files files' laying (Ok answer) stays four fits eff h = record {
   fits = fits;
   is_for_four = four;
   answers = subst (MayAnswer x) (sym h.is) tt;
-  leaves = λ db fs e g. subst (λ (c : Carried). Leaves user x db fs s.new files' c) (sym h.is) (laid db change, fs, h.made db e, stays ∙ g, eff db fs e g);
-  known = λ db e. (laid db change, h.made db e);
-  crash = λ db fs e g. leaves_as (λ o. o ≡ Some (laid db change)) (Makes user x db fs) s.before s.now s.left_before s.left_now (λ o is. (laid db change, fs, is, eff db fs e g)) (h.crash db e);
-  durable = λ db db' e e' stands. subst (λ (d : Db). AllDenote s.now s.left_now d) (same_Some (laid db change) db' (sym (h.made db e) ∙ e')) (h.durable db e);
+  leaves = λ db fs e g. subst (λ (c : Carried). Leaves user x db fs s.new files' c) (sym h.is) (laid db laying, fs, h.made db e, stays ∙ g, eff db fs e g);
+  known = λ db e. (laid db laying, h.made db e);
+  crash = λ db fs e g. leaves_as (λ o. o ≡ Some (laid db laying)) (Makes user x db fs) s.before s.now s.left_before s.left_now (λ o is. (laid db laying, fs, is, eff db fs e g)) (h.crash db e);
+  durable = λ db db' e e' stands. subst (λ (d : Db). AllDenote s.now s.left_now d) (same_Some (laid db laying) db' (sym (h.made db e) ∙ e')) (h.durable db e);
   handed = h.handed;
 }
-laid_carries user x s files files' change (Err f) stays four fits eff h = record {
+laid_carries user x s files files' laying (Err f) stays four fits eff h = record {
   unfit = λ u. absurd (h.fault u);
   spares = h.spares;
-  database = λ db now fs e g n. laid_either user x db now fs change (eff db fs e g) (h.either db now e n);
+  database = λ db now fs e g n. laid_either user x db now fs laying (eff db fs e g) (h.either db now e n);
   part = λ db fs e g. inl (stays ∙ g);
   files_left = λ fs g. inl (stays ∙ g);
-  crash = λ db fs e g. leaves_as (λ o. o ≡ Some (laid db change)) (Makes user x db fs) s.before s.now s.left_before s.left_now (λ o is. (laid db change, fs, is, eff db fs e g)) (h.crash db e);
+  crash = λ db fs e g. leaves_as (λ o. o ≡ Some (laid db laying)) (Makes user x db fs) s.before s.now s.left_before s.left_now (λ o is. (laid db laying, fs, is, eff db fs e g)) (h.crash db e);
 }
 
 -- ---- a refusal was answered
@@ -162,6 +165,16 @@ not_copied_carries user work s files files' (copy.Base f) result left is fits ef
     as_result user (work_of work) s files files' (of_base f) result h.0 (kept_not user (work_of work) s files files' (of_base f) h.1 (left.others (λ x. cc x)) (λ u. absurd (base_lawful f (of_base f) refl u)))
 not_copied_carries user work s files files' copy.OutOfMemory result left is fits eff h =
     as_result user (work_of work) s files files' faults.OutOfMemory result h.0 (kept_not user (work_of work) s files files' faults.OutOfMemory h.1 (left.others (λ x. cc x)) (λ u. absurd (cc u)))
+
+-- where it is this fault
+pub shelf_not_copied : (fault : CopyFault) (s : Span) → fault ≡ copy.Shelf → Kept s → NotCopied fault s (Err faults.Shelf)
+shelf_not_copied fault s is k = subst (λ (f : CopyFault). NotCopied f s (Err faults.Shelf)) (sym is) (refl, k)
+
+pub base_not_copied : (fault : CopyFault) (f : BaseFault) (g : WorkFault) (s : Span) → fault ≡ copy.Base f → g ≡ of_base f → Kept s → NotCopied fault s (Err g)
+base_not_copied fault f g s is e k = subst (λ (x : CopyFault). NotCopied x s (Err g)) (sym is) (ap (λ (h : WorkFault). Err h) e, k)
+
+pub short_not_copied : (fault : CopyFault) (s : Span) → fault ≡ copy.OutOfMemory → Kept s → NotCopied fault s (Err faults.OutOfMemory)
+short_not_copied fault s is k = subst (λ (f : CopyFault). NotCopied f s (Err faults.OutOfMemory)) (sym is) (refl, k)
 
 -- from a file: the files are as they were
 pub from_spares : (user : List ℕ) (work : Utility) (s : Span) (files files' : Option Files) (fault : CopyFault) → files' ≡ files → CopySpares user work s files files' fault
@@ -245,3 +258,14 @@ stored_carries user work c s files files' answer x is fits known h = record {
   durable = λ db db' e e' stands. subst (λ (d : Db). AllDenote s.now s.left_now d) (same_Some db db' (sym (h.kept.same ∙ e) ∙ e')) (h.stands db stands);
   handed = h.handed;
 }
+
+-- ---- of what is in the stage's hands
+
+pub change_at : (user : List ℕ) (here : At) (c given : DbChange) (s : Span) (files : Option Files) (result : Result Carried WorkFault) → here ≡ at.Change c → given ≡ c → Carries user (change given) s files files result → CarriesAt user here s files files result
+change_at user here c given s files result is same h =
+    subst (λ (a : At). CarriesAt user a s files files result) (sym is) (subst (λ (d : DbChange). Carries user (change d) s files files result) same h)
+
+-- ---- of answers
+
+pub none_of : {A : Type 0} (o : Option A) (P : Type 0) → o ≡ None → IfNone o P → P
+none_of o P is h = subst (λ x. IfNone x P) is h

@@ -5,6 +5,7 @@ use Rattle.calculus.specs.declared.request.Checked.{Checked}
 use Rattle.calculus.specs.declared.request.Checked.TheVariants as checked
 use Rattle.frame_codec.specs.declared.frame.Frame.{Frame}
 use Rattle.message_codec.specs.Coming.{HasCome, with_left}
+use Rattle.message_codec.specs.declared.gathered.Came.{Came}
 use Rattle.message_codec.specs.declared.gathered.Came.TheVariants as came
 use Rattle.message_codec.specs.declared.messages.StageMessage.{StageMessage}
 use Rattle.message_codec.specs.declared.messages.StageMessage.TheVariants as stage
@@ -52,7 +53,7 @@ tree_takes : (user : User) (t : Checked) → takes (quel user) idle4 (cargo (tre
 unfolding quel
 tree_takes user (checked.Answer asked) = refl
 tree_takes user (checked.Update u) = refl
-tree_takes user (checked.Utility work) = refl
+tree_takes user (checked.Utility w) = refl
 
 takes_as : (user : User) (m : StageMessage) → takes (quel user) idle4 (message m) ≡ option_map (λ a. turns_to (mode_at a)) (at_taking m)
 takes_as user (stage.Tree t) = tree_takes user t
@@ -72,10 +73,10 @@ taken_part user here got got' out f h c e =
 
 pub taken_whole : (user : User) (here now : At) (got got' out : List Frame) (f : Frame) (m : StageMessage) → IsToTake (standing here got out) → HasCome got f (came.Whole m) → Some now ≡ at_taking m → got' ≡ []
     → Taken (quel user) (standing here got out) f (standing now got' out)
-taken_whole user here now got got' out f m h c is none =
+taken_whole user here now got got' out f m h c is cleared =
     waits_so (λ a fs. Taken (quel user) (standing a got fs) f (standing now got' fs)) here out (is_waiting here got out h)
     (left_whole user (standing at.Idle got []) (standing now got' []) f m (turns_to (mode_at now)) refl c (takes_as user m ∙ ap (λ (o : Option At). option_map (λ a. turns_to (mode_at a)) o) (sym is))
-    (ap (λ (fs : List Frame). standing now fs []) none))
+    (ap (λ (fs : List Frame). standing now fs []) cleared))
 
 pub not_whole : (user : User) (here : At) (got out : List Frame) (f : Frame) (m : StageMessage) → IsToTake (standing here got out) → HasCome got f (came.Whole m) → None ≡ at_taking m → MayNotTake (quel user) (standing here got out) f
 not_whole user here got out f m h c is =
@@ -91,9 +92,9 @@ not_lawful user here got out f h c =
 tree_held : (user : User) (t : Checked) (now : At) (kind : ℕ) (bytes : List ℕ) → message_by kind bytes ≡ Some (cargo (tree t)) → Some now ≡ tree_taken t → IsHeldSpelled now
 tree_held user (checked.Answer asked) now kind bytes e is = absurd (cc is)
 tree_held user (checked.Update u) now kind bytes e is = absurd (cc is)
-tree_held user (checked.Utility work) now kind bytes e is =
-    let same : now ≡ at.Tree (checked.Utility work) = cc is in
-    subst IsHeldSpelled (sym same) (tree_fits user (checked.Utility work) (by_spelled user kind bytes (cargo (tree (checked.Utility work))) e))
+tree_held user (checked.Utility w) now kind bytes e is =
+    let same : now ≡ at.Tree (checked.Utility w) = cc is in
+    subst IsHeldSpelled (sym same) (tree_fits user (checked.Utility w) (by_spelled user kind bytes (cargo (tree (checked.Utility w))) e))
 
 pub held_spelled : (user : User) (m : StageMessage) (now : At) (kind : ℕ) (bytes : List ℕ) → message_by kind bytes ≡ Some (message m) → Some now ≡ at_taking m → IsHeldSpelled now
 held_spelled user (stage.Tree t) now kind bytes e is = tree_held user t now kind bytes e is
@@ -126,3 +127,9 @@ some_to_give here got out h e = idle_gives here got (subst (λ (fs : List Frame)
 
 pub gave : (here : At) (got out out' : List Frame) (f : Frame) → out ≡ f ∷ out' → Given (standing here got out) f (standing here got out')
 gave here got out out' f e = subst (λ (fs : List Frame). Given (standing here got fs) f (standing here got out')) (sym e) (refl, refl)
+
+-- ---- as the code has it
+
+-- what came with the frame
+pub came_as : (got : List Frame) (f : Frame) (x y : Came) → HasCome got f x → x ≡ y → HasCome got f y
+came_as got f x y h e = subst (λ (z : Came). HasCome got f z) e h

@@ -11,7 +11,7 @@ pub work_done-requires : goal.work_done-requires
 work_done-requires g c = record {
   fits = λ db e.
       let was = sym c.in-Ok-true.ensures.kept ∙ e in
-      fits_so db c.args.user.now c.args.given.now c.args.work.now c.in-Ok-true.field-0 c.requires.is (c.in-Ok-true.ensures.known db (g.B.Base.own c.args.base.now db was)) ?;
+      fits_so db c.args.user.now c.args.given.now c.args.work.now c.in-Ok-true.field-0 c.requires.is (c.in-Ok-true.ensures.known db (g.B.Base.own c.args.base.now db was)) c.in-Ok-true.field-0-test;
   empty = c.requires.empty;
 }
 
@@ -29,7 +29,7 @@ returns-in-Ok-false-clause-done g c =
     let later = c.in-Ok-false.ensures.asked c.args.base.now (g.B.Base.starts c.args.base.now) in
     unfit_not c.args.user.now (work_of c.args.work.now) (span g.B.Base.database g.B.Base.schema g.B.Base.clock g.B.Base.left_since c.args.base.now c.fit_tree.new.base) (g.H.Shelf.files c.args.shelf.now)
     (record { same = (g.B.Base.asks_keep c.args.base.now c.fit_tree.new.base later).0; crash = (g.B.Base.asks c.args.base.now c.fit_tree.new.base later).nothing_else })
-    (λ db e fit. not_fit db c.args.user.now c.args.given.now c.args.work.now c.in-Ok-false.field-0 c.requires.is (c.in-Ok-false.ensures.known db (g.B.Base.own c.args.base.now db e)) ? fit)
+    (λ db e fit. not_fit db c.args.user.now c.args.given.now c.args.work.now c.in-Ok-false.field-0 c.requires.is (c.in-Ok-false.ensures.known db (g.B.Base.own c.args.base.now db e)) c.in-Ok-false.field-0-test fit)
 
 pub returns-in-Ok-false-clause-cause : goal.returns-in-Ok-false-clause-cause
 returns-in-Ok-false-clause-cause g c = still_unlawful (g.B.Base.database c.args.base.now) (g.B.Base.faults c.args.base.now) (g.B.Base.faults c.fit_tree.new.base) (g.H.Shelf.faults c.args.shelf.now) (g.H.Shelf.faults c.args.shelf.now) c.in-Ok-false.ensures.cause.caused refl

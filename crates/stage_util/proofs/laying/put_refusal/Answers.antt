@@ -7,8 +7,7 @@ use Rattle.stage_util.proofs.laying.put_refusal.Goals as goal
 pub returns-in-Ok-clause-refused : goal.returns-in-Ok-clause-refused
 returns-in-Ok-clause-refused g c = λ b asked.
     let now = c.hand_over.new.self in
-    let later = c.hand_over.ensures.asked b asked in
-    (
+    let later = c.hand_over.ensures.asked b asked in (
       refl,
       refused_known c.args.refusal c.args.message.kind c.args.message.bytes c.requires.is,
       handed_over (g.B.Base.database b) (g.B.Base.database now) (g.B.Base.schema now) (g.B.Base.clock b) (g.B.Base.clock now) (g.B.Base.left_since b) (g.B.Base.left_since now)
