@@ -9,7 +9,7 @@ use Rattle.calculus.specs.Rows.{Row}
 use Rattle.message_codec.specs.declared.messages.StageMessage.{StageMessage}
 use Rattle.message_codec.specs.declared.messages.StageMessage.TheVariants as stage
 use Rattle.message_codec.specs.Messages.{message}
-use Rattle.network_meaning.specs.Sorts.{Message, Cargo.tree, Cargo.change, Shown.head, Shown.row, Reply.done, Reply.refused, Said.shown, Said.replied, Message.text, Message.cargo, Message.said, Message.end, Message.quit}
+use Rattle.network_meaning.specs.Sorts.{Message, Cargo.tree, Cargo.change, Shown.head, Shown.row, Reply.refused, Said.shown, Said.replied, Message.text, Message.cargo, Message.said}
 use Rattle.quel_network.specs.Sorts.{quel_sorts}
 use Rattle.quel_network.specs.Spelling.{if_empty, is_refusal_number, known_refusal, message_by, refusal_codec, spelled_by}
 use Rattle.quel_tree.specs.Changes.{change as change_codec}

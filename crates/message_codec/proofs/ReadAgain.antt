@@ -1,5 +1,5 @@
 -- Values that were read of bytes, or read again.
-use Rattle.std.specs.Prelude.{◌≡◌, ℕ, List, Some, None, Option, Result, Ok, Err}
+use Rattle.std.specs.Prelude.{◌≡◌, ℕ, List, Some, None, Option, Ok, Err}
 use Rattle.std.proofs.Common.{refl, sym, ap, subst, ◌∙◌}
 use Rattle.message_codec.specs.Messages.{IsAgain}
 use Rattle.quel_network.specs.CodecLaws.{only_spelled, spelled_again}

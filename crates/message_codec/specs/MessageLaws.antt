@@ -10,7 +10,7 @@ use Rattle.calculus.specs.declared.reply.Refusal.{Refusal}
 use Rattle.calculus.specs.declared.request.Checked.{Checked}
 use Rattle.calculus.specs.Rows.{Row}
 use Rattle.frame_codec.specs.declared.frame.Frame.{Frame}
-use Rattle.frame_codec.specs.Messages.{is_message_kind, message_frames}
+use Rattle.frame_codec.specs.Messages.{message_frames}
 use Rattle.message_codec.specs.Messages.{IsOf, IsSpelled}
 use Rattle.network_meaning.specs.Frames.{frames, kind_of, last_of, payloads, read_by, spell, whole}
 use Rattle.network_meaning.specs.Sorts.{Message, Cargo.tree, Cargo.change, Shown.head, Shown.row, Reply.done, Reply.refused, Said.shown, Said.replied, Message.text, Message.cargo, Message.said, Message.end, Message.quit}

@@ -1,6 +1,6 @@
 -- Frames that a stage takes or may not take, by what comes with them: the laws.
-use Rattle.std.specs.Prelude.{◌≡◌, ◌⊎◌, Bool, true, false, List, [], ◌∷◌, ◌++◌, Some, None, Option}
-use Rattle.std.proofs.Common.{inl, inr, refl, sym, ap, subst, ◌∙◌}
+use Rattle.std.specs.Prelude.{◌≡◌, Bool, true, false, List, [], ◌∷◌, ◌++◌, Some, None, Option}
+use Rattle.std.proofs.Common.{inl, inr, sym, ap, subst, ◌∙◌}
 use Rattle.frame_codec.specs.declared.frame.Frame.{Frame}
 use Rattle.message_codec.specs.Coming.{HasCome, with_left, with_right}
 use Rattle.message_codec.specs.declared.gathered.Came.TheVariants as came

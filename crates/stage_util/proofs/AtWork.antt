@@ -1,5 +1,5 @@
 -- What the fourth stage has carried out, as the work of the network.
-use Rattle.std.proofs.Common.{◌≡◌, ◌⊎◌, ◌≤◌, inl, inr, refl, sym, ap, subst, ◌∙◌, ℕ, Bool, true, false, List, [], ◌∷◌, ◌++◌, Some, None, Option, Result, Ok, Err, IsErrOf, arith}
+use Rattle.std.proofs.Common.{◌≡◌, ◌⊎◌, inl, inr, refl, sym, ap, subst, ◌∙◌, ℕ, List, [], ◌∷◌, ◌++◌, Some, Option, Result, Ok, Err, arith}
 use Rattle.std.proofs.KnownBytes.{Appends-nil}
 use Rattle.std.proofs.lemmas.List.{append-nil}
 use Rattle.std.proofs.lemmas.Option.{same_Some}
@@ -20,9 +20,9 @@ use Rattle.net_core.specs.Spares.{Counts, CountsOnlyBy, IsNoFaultOfEnds, SparesB
 use Rattle.net_core.specs.Wants.{IsToWork}
 use Rattle.network_meaning.specs.Calls.{Knows, WorkDone, WorkedIn}
 use Rattle.network_meaning.specs.Lawful.{FitWork}
-use Rattle.network_meaning.specs.LocalSteps.{Act, CarriesOut, Mode.idle4, Mode.working4, Room as NetworkRoom, Works, outcome_of, says}
+use Rattle.network_meaning.specs.LocalSteps.{CarriesOut, Mode.idle4, Mode.working4, Room as NetworkRoom, Works, outcome_of, says}
 use Rattle.network_meaning.specs.Network.{LocalState}
-use Rattle.network_meaning.specs.Sorts.{Cargo, Cargo.change, Cargo.tree, Message.said, Outcome, Reply.done, Reply.refused, Said.replied}
+use Rattle.network_meaning.specs.Sorts.{Cargo, Cargo.change, Cargo.tree, Outcome}
 use Rattle.network_meaning.specs.WorkShape.{CarryShape, UtilityShape.does as shape_does, UtilityShape.refuses as shape_refuses}
 use Rattle.quel_network.specs.Quel.{quel}
 use Rattle.quel_network.specs.Sorts.{User, quel_sorts}
@@ -37,7 +37,7 @@ use Rattle.stage_util.specs.declared.at.At.TheVariants as at
 use Rattle.stage_util.specs.declared.carried.Carried.{Carried}
 use Rattle.stage_util.specs.declared.carried.Carried.TheVariants as carried
 use Rattle.stage_util.specs.Standing.{IsHeldSpelled, IsHolding, Serves, standing}
-use Rattle.stage_util.specs.Working.{After, Carries, CarriesAt, Did, DidNot, FitsFor, HasWorkCause, IsForFour, Leaves, Makes, MayAnswer, MayComeHere, MayStoreOf, SparesDatabase, answer_of, frames_of, outside_after, span_of}
+use Rattle.stage_util.specs.Working.{After, CarriesAt, Did, DidNot, FitsFor, HasWorkCause, IsForFour, Leaves, Makes, MayAnswer, MayComeHere, MayStoreOf, SparesDatabase, answer_of, frames_of, outside_after, span_of}
 
 -- ---- of one piece of cargo
 

@@ -1,6 +1,6 @@
 -- When each fault may come.
-use Rattle.std.proofs.Common.{◌≡◌, ◌≤◌, refl, sym, ap, subst, ◌∙◌, ℕ, List, None, Option, Result, Ok, Err, IsErrOf, arith}
-use Rattle.base_trait.specs.Causes.{HasCause, MayCome}
+use Rattle.std.proofs.Common.{◌≡◌, ◌≤◌, refl, sym, subst, ◌∙◌, ℕ, List, Option, Result, Ok, Err, arith}
+use Rattle.base_trait.specs.Causes.{MayCome}
 use Rattle.base_trait.specs.declared.fault.BaseFault.{BaseFault}
 use Rattle.base_trait.specs.declared.fault.BaseFault.TheVariants as base_faults
 use Rattle.calculus.specs.declared.reply.Refusal.{Refusal}

@@ -1,5 +1,5 @@
 -- What the utilities do, by what is planned or copied.
-use Rattle.std.proofs.Common.{◌≡◌, refl, sym, ap, ◌∙◌, subst, ℕ, true, false, List, Some, Result, Ok, Err}
+use Rattle.std.proofs.Common.{◌≡◌, refl, ap, ◌∙◌, ℕ, true, false, List, Ok, Err}
 use Rattle.calculus.specs.declared.change.DbChange.{DbChange}
 use Rattle.calculus.specs.declared.reply.Refusal.{Refusal}
 use Rattle.calculus.specs.declared.reply.Reply.TheVariants as reply
@@ -9,7 +9,7 @@ use Rattle.calculus.specs.declared.request.Utility.TheVariants as utility
 use Rattle.calculus.specs.Change.{laid}
 use Rattle.calculus.specs.Database.{Db}
 use Rattle.calculus.specs.IsDatabase.{IsDatabase}
-use Rattle.calculus.specs.Who.{Unrestricted, asker_of}
+use Rattle.calculus.specs.Who.{asker_of}
 use Rattle.copy_util.specs.Copies.{IsCopy}
 use Rattle.fault_io.specs.Files.{Files, stored}
 use Rattle.network_meaning.specs.LocalSteps.{outcome_of}

@@ -1,12 +1,10 @@
 -- What is fit, by the tests of the present database.
-use Rattle.std.proofs.Common.{◌≡◌, ◌↔◌, refl, sym, ap, subst, ◌∙◌, ℕ, Bool, true, false, List}
+use Rattle.std.proofs.Common.{◌≡◌, ◌↔◌, sym, ap, ◌∙◌, ℕ, Bool, true, false, List}
 use Rattle.calculus.specs.declared.request.Checked.{Checked}
 use Rattle.calculus.specs.declared.request.Checked.TheVariants as checked
 use Rattle.calculus.specs.declared.request.Utility.{Utility}
 use Rattle.calculus.specs.Database.{Db}
-use Rattle.network_meaning.specs.Sorts.{Cargo.tree}
 use Rattle.quel_meaning.specs.Fit.{is_fit}
-use Rattle.stage_util.specs.Working.{FitsFor, IsForFour}
 
 -- the test of the tree has said so of the work that it asks for
 pub fits_so : (db : Db) (user : List ℕ) (t : Checked) (work : Utility) (b : Bool) → t ≡ checked.Utility work → b ≡ is_fit db user t → b ≡ true → is_fit db user (checked.Utility work) ≡ true

@@ -1,5 +1,5 @@
 -- A change that is laid, behind questions, and the base that is handed over behind it.
-use Rattle.std.proofs.Common.{◌≡◌, ◌≤◌, ◌⊎◌, inl, inr, ℕ, refl, sym, ap, subst, ◌∙◌, Some, Option, Err, IsErrOf}
+use Rattle.std.proofs.Common.{◌≡◌, ◌≤◌, ◌⊎◌, inl, ℕ, refl, sym, subst, ◌∙◌, Some, Option, Err, IsErrOf}
 use Rattle.std.proofs.lemmas.Option.{same_Some}
 use Rattle.base_trait.proofs.Crashes.{asked_leaves, leaves_more, still_stands}
 use Rattle.base_trait.specs.Crashes.{LeavesBut, AllDenote}
@@ -14,7 +14,7 @@ use Rattle.net_core.specs.declared.fault.WorkFault.TheVariants as faults
 use Rattle.stage_util.specs.declared.carried.Carried.{Carried}
 use Rattle.stage_util.specs.declared.carried.Carried.TheVariants as carried
 use Rattle.stage_util.specs.Laying.{Laid, NotLaid}
-use Rattle.stage_util.specs.Working.{HandedOver, Kept, SparesDatabase, Span, of_base}
+use Rattle.stage_util.specs.Working.{HandedOver, SparesDatabase, Span, of_base}
 
 -- what is known of a base from a first one to this one
 abbrev pub to : Option Db → Option Db → Option Db → ℕ → ℕ → (ℕ → Option Db → Type 0) → (ℕ → Option Db → Type 0) → Span

@@ -1,5 +1,5 @@
 -- Answers as frames.
-use Rattle.std.proofs.Common.{◌≡◌, refl, ap, ◌∙◌, ℕ, List, [], ◌++◌}
+use Rattle.std.proofs.Common.{◌≡◌, ap, ◌∙◌, ℕ, List, [], ◌++◌}
 use Rattle.calculus.specs.declared.reply.Refusal.{Refusal}
 use Rattle.frame_codec.specs.declared.frame.Frame.{Frame}
 use Rattle.frame_codec.specs.Messages.{message_frames}

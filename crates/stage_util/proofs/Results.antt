@@ -8,7 +8,6 @@ use Rattle.base_trait.specs.declared.fault.BaseFault.{BaseFault}
 use Rattle.base_trait.specs.declared.fault.BaseFault.TheVariants as base_faults
 use Rattle.calculus.specs.declared.change.DbChange.{DbChange}
 use Rattle.calculus.specs.declared.reply.Refusal.{Refusal}
-use Rattle.calculus.specs.declared.reply.Reply.TheVariants as reply
 use Rattle.calculus.specs.declared.request.Utility.{Utility}
 use Rattle.calculus.specs.Change.{laid}
 use Rattle.calculus.specs.Database.{Db}
@@ -23,7 +22,7 @@ use Rattle.fault_io.specs.Shelves.{MayHaveStored}
 use Rattle.net_core.specs.declared.fault.WorkFault.{WorkFault}
 use Rattle.net_core.specs.declared.fault.WorkFault.TheVariants as faults
 use Rattle.network_meaning.specs.Sorts.{Cargo, Cargo.change}
-use Rattle.quel_meaning.specs.Copying.{bad_row, copied_from, copied_into, file_of_constant, refusal}
+use Rattle.quel_meaning.specs.Copying.{bad_row, copied_into, file_of_constant, refusal}
 use Rattle.quel_network.specs.RefusalLaws.{HasSpelling}
 use Rattle.quel_network.specs.Sorts.{quel_sorts}
 use Rattle.stage_util.proofs.Effects.{changed_by, into_done, into_refused, number_known, refused_by, work_of}

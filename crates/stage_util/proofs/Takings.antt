@@ -1,10 +1,10 @@
 -- What the fourth stage takes.
 use Rattle.std.specs.Prelude.{option_map}
-use Rattle.std.proofs.Common.{◌≡◌, ◌⊎◌, inl, inr, refl, sym, ap, subst, ◌∙◌, ℕ, Bool, true, false, List, [], ◌∷◌, ◌++◌, Some, None, Option}
+use Rattle.std.proofs.Common.{◌≡◌, ◌⊎◌, inl, inr, refl, sym, ap, subst, ◌∙◌, ℕ, List, [], ◌∷◌, ◌++◌, Some, None, Option}
 use Rattle.calculus.specs.declared.request.Checked.{Checked}
 use Rattle.calculus.specs.declared.request.Checked.TheVariants as checked
 use Rattle.frame_codec.specs.declared.frame.Frame.{Frame}
-use Rattle.message_codec.specs.Coming.{HasCome, with_left}
+use Rattle.message_codec.specs.Coming.{HasCome}
 use Rattle.message_codec.specs.declared.gathered.Came.{Came}
 use Rattle.message_codec.specs.declared.gathered.Came.TheVariants as came
 use Rattle.message_codec.specs.declared.messages.StageMessage.{StageMessage}
@@ -15,15 +15,14 @@ use Rattle.message_codec.specs.TakingLaws.{left_no_whole, left_part, left_unlawf
 use Rattle.net_core.specs.Causes.{MayNotTake}
 use Rattle.net_core.specs.Wants.{IsToGive, IsToTake}
 use Rattle.network_meaning.specs.Calls.{Given, Taken}
-use Rattle.network_meaning.specs.LocalSteps.{Act, Mode.idle4, Want, Want.give_left, Want.give_right, Want.take_left, Want.take_right, Want.work, Want.none, takes, turns_to}
-use Rattle.network_meaning.specs.Network.{LocalState, want}
+use Rattle.network_meaning.specs.LocalSteps.{Mode.idle4, Want, Want.give_left, Want.give_right, Want.take_left, Want.take_right, Want.work, Want.none, takes, turns_to}
 use Rattle.network_meaning.specs.Sorts.{Cargo.change, Cargo.tree, Message.cargo}
 use Rattle.quel_network.specs.Quel.{quel}
-use Rattle.quel_network.specs.Sorts.{User, quel_sorts}
+use Rattle.quel_network.specs.Sorts.{User}
 use Rattle.quel_network.specs.Spelling.{message_by}
 use Rattle.stage_util.specs.declared.at.At.{At}
 use Rattle.stage_util.specs.declared.at.At.TheVariants as at
-use Rattle.stage_util.specs.Standing.{IsHeldSpelled, Serves, at_taking, mode_at, standing, tree_taken}
+use Rattle.stage_util.specs.Standing.{IsHeldSpelled, at_taking, mode_at, standing, tree_taken}
 
 -- ---- where it takes
 

@@ -1,5 +1,5 @@
 -- A change that is laid, and a refusal that is answered.
-use Rattle.std.specs.Prelude.{◌≡◌, ◌⊎◌, ℕ, true, false, Some, Result, Ok, Err}
+use Rattle.std.specs.Prelude.{◌≡◌, ◌⊎◌, false, Some, Result, Ok, Err}
 use Rattle.base_trait.specs.Crashes.{LeavesBut, AllDenote}
 use Rattle.calculus.specs.declared.change.DbChange.{DbChange}
 use Rattle.calculus.specs.declared.reply.Refusal.{Refusal}

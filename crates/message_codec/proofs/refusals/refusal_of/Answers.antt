@@ -1,4 +1,4 @@
-use Rattle.std.proofs.Common.{◌≡◌, ◌∙◌, refl, sym, arith, true}
+use Rattle.std.proofs.Common.{◌∙◌, arith}
 use Rattle.message_codec.specs.MessageLaws.{refused_by}
 use Rattle.quel_network.specs.RefusalLaws.{HasSpelling, spelling_of}
 use Rattle.message_codec.proofs.refusals.refusal_of.Goals as goal

@@ -1,4 +1,3 @@
-use Rattle.std.proofs.Common.{◌∙◌, ap, sym}
 use Rattle.stage_util.proofs.Causes.{with_shelf}
 use Rattle.stage_util.proofs.Results.{change_at}
 use Rattle.stage_util.specs.Working.{span}

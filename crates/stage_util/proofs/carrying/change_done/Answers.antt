@@ -1,4 +1,4 @@
-use Rattle.std.proofs.Common.{refl, sym, ap, ◌∙◌}
+use Rattle.std.proofs.Common.{refl, sym, ◌∙◌}
 use Rattle.calculus.specs.Change.{IsLawful}
 use Rattle.network_meaning.specs.Sorts.{Cargo.change}
 use Rattle.stage_util.proofs.Causes.{base_cause, behind_calls, still_unlawful}

@@ -1,5 +1,4 @@
-use Rattle.std.proofs.Common.{refl, sym, ap, ◌∙◌, true, false}
-use Rattle.std.specs.Prelude.{◌≡◌, Bool}
+use Rattle.std.proofs.Common.{refl, sym, ◌∙◌}
 use Rattle.stage_util.proofs.Causes.{base_cause, behind_calls, still_unlawful}
 use Rattle.stage_util.proofs.Effects.{work_of}
 use Rattle.stage_util.proofs.Fits.{fits_so, not_fit}

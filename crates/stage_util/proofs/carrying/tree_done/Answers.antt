@@ -1,4 +1,4 @@
-use Rattle.std.proofs.Common.{refl, sym, ap, subst, ◌∙◌}
+use Rattle.std.proofs.Common.{refl, sym, subst}
 use Rattle.calculus.specs.declared.request.Checked.{Checked}
 use Rattle.network_meaning.specs.Sorts.{Cargo.tree}
 use Rattle.stage_util.proofs.Causes.{still_unlawful}

@@ -1,6 +1,5 @@
-use Rattle.std.proofs.Common.{Ok, refl, sym, ap, ◌∙◌}
+use Rattle.std.proofs.Common.{sym, ◌∙◌}
 use Rattle.calculus.specs.declared.change.DbChange.{DbChange}
-use Rattle.quel_meaning.specs.Copying.{copied_from}
 use Rattle.stage_util.proofs.Causes.{behind_calls, copy_cause, with_shelf}
 use Rattle.stage_util.proofs.Effects.{from_done, from_refused, work_of}
 use Rattle.stage_util.proofs.Results.{from_spares, laid_carries, not_copied_carries, refused_as}

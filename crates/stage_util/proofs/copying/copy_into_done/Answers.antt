@@ -1,4 +1,4 @@
-use Rattle.std.proofs.Common.{refl, sym, ap, ◌∙◌}
+use Rattle.std.proofs.Common.{refl, ◌∙◌}
 use Rattle.stage_util.proofs.Causes.{copy_cause, still_ok, still_short}
 use Rattle.stage_util.proofs.Effects.{work_of}
 use Rattle.stage_util.proofs.Results.{into_refuses, into_spares, not_copied_carries, short_not, stored_carries}

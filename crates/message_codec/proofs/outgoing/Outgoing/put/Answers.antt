@@ -1,4 +1,3 @@
-use Rattle.std.proofs.Common.{sym}
 use Rattle.message_codec.proofs.Queue.{put_any, put_ok}
 use Rattle.message_codec.proofs.outgoing.Outgoing.put.Goals as goal
 

@@ -1,4 +1,4 @@
-use Rattle.stage_util.proofs.Takings.{gave, some_to_give}
+use Rattle.stage_util.proofs.Takings.{some_to_give}
 use Rattle.stage_util.proofs.fourth.UtilitiesStage.give.Goals as goal
 
 pub give-requires : goal.give-requires

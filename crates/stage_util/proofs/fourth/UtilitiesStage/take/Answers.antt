@@ -1,4 +1,3 @@
-use Rattle.std.proofs.Common.{sym}
 use Rattle.message_codec.specs.declared.gathered.Came.TheVariants as came
 use Rattle.stage_util.proofs.Takings.{came_as, held_spelled, not_lawful, not_whole, taken_whole}
 use Rattle.stage_util.proofs.fourth.UtilitiesStage.take.Goals as goal
