@@ -9,3 +9,4 @@ pub mod RuleKeeping
 pub mod RecordRead
 pub mod Known
 pub mod Written
+pub mod SomeRows

@@ -1,9 +1,10 @@
 -- How a copied file is written, column by column and record by record.
-use Rattle.std.specs.Prelude.{ℕ, ◌^◌, ◌≤◌, Bool, true, false, List, ◌++◌, map, Option, Some, None, Result, Ok, Err}
+use Rattle.std.specs.Prelude.{◌≡◌, ℕ, ◌^◌, ◌≤◌, Bool, true, false, List, ◌++◌, map, Option, Some, None, Result, Ok, Err}
 use Rattle.std.specs.List.{concat}
 use Rattle.calculus.specs.declared.request.CopyCol.{CopyCol}
 use Rattle.calculus.specs.Rows.{Row}
-use Rattle.quel_meaning.specs.Copying.{numbered_from, record_bytes}
+use Rattle.copy_util.specs.Reading.{up_to_bad}
+use Rattle.quel_meaning.specs.Copying.{file_of_rows, numbered_from, record_bytes}
 
 -- these bytes where they were put, else none
 abbrev pub where_put : Bool → List ℕ → Option (List ℕ)
@@ -23,3 +24,7 @@ bytes_before bytes (Err number) = Err number
 abbrev pub IsLarge : Option ℕ → Type 0
 IsLarge None = ⊥
 IsLarge (Some number) = 2 ^ 32 ≤ number
+
+-- these bytes are the file of the records of some rows, or their first bad one has this number
+abbrev pub IsFileOfRows : List CopyCol → List ℕ → Option ℕ → Type 0
+IsFileOfRows columns bytes bad = (rows : List Row) × (file_of_rows columns rows ≡ up_to_bad bytes bad)

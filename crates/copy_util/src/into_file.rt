@@ -1,6 +1,6 @@
 //! Copies rows into a file.
 
-ghost use Rattle.std.specs.Prelude.{◌≡◌, [], true, false, IsTrue, IfOk, IfErr, Some, Ok, Err};
+ghost use Rattle.std.specs.Prelude.{◌≡◌, [], true, false, IsTrue, IfOk, IfErr, OnOk, Some, Ok, Err};
 ghost use Rattle.calculus.specs.Database.{Db};
 ghost use Rattle.calculus.specs.Stored.{rows_at};
 ghost use Rattle.calculus.specs.declared.request.Checked.TheVariants as checked;
@@ -12,8 +12,8 @@ ghost use Rattle.quel_meaning.specs.Fit.{is_fit};
 ghost use Rattle.copy_util.specs.Causes.{Copies, HasBaseCause, HasCopyCause, HasShelfCause};
 ghost use Rattle.copy_util.specs.Copies.{IsCopy};
 ghost use Rattle.copy_util.specs.Reading.{have_forms, up_to_bad};
-ghost use Rattle.copy_util.specs.Stored.{IsStored};
-ghost use Rattle.copy_util.specs.Writing.{IsLarge};
+ghost use Rattle.copy_util.specs.Stored.{IsStored, MayBeCopied, SparesFiles};
+ghost use Rattle.copy_util.specs.Writing.{IsFileOfRows, IsLarge};
 
 use crate::CopyFault;
 use crate::file_name::file_of_constant;
@@ -52,6 +52,7 @@ fn put_rows<B: Base>(
     requires forms { IsTrue (have_forms columns.now) }
     requires empty { out.old.items ≡ [] }
     ensures known { (db : Db) → B.database base.old ≡ Some db → IfOk result (λ bad. file_of_rows columns.now (rows_at db rel.now) ≡ up_to_bad out.new.items bad) }
+    ensures some { IfOk result (λ bad. IsFileOfRows columns.now out.new.items bad) }
     ensures kept { B.database base.new ≡ B.database base.old }
     ensures stays { (s : Db) → B.schema base.old ≡ Some s → B.schema base.new ≡ Some s }
     ensures asked { (b : B) → B.asked b base.old → B.asked b base.new }
@@ -80,6 +81,7 @@ fn put_file<B: Base>(
     requires empty { out.old.items ≡ [] }
     ensures known { (db : Db) → B.database base.old ≡ Some db
         → Copies (λ done. copied_into db user.now rel.now columns.now ≡ Ok out.new.items) (λ refusal. copied_into db user.now rel.now columns.now ≡ Err refusal) result }
+    ensures some { OnOk result (MayBeCopied user.now rel.now columns.now out.new.items) }
     ensures kept { B.database base.new ≡ B.database base.old }
     ensures stays { (s : Db) → B.schema base.old ≡ Some s → B.schema base.new ≡ Some s }
     ensures asked { (b : B) → B.asked b base.old → B.asked b base.new }
@@ -127,6 +129,7 @@ fn store_rows<B: Base, H: Shelf>(
     requires fits { (db : Db) → B.database base.old ≡ Some db → have_forms columns.now ≡ true }
     ensures known { (db : Db) (files : Files) → B.database base.old ≡ Some db → H.files shelf.old ≡ Some files
         → IsStored (copied_into db user.now rel.now columns.now) (file_of_constant constant.now) files (H.files shelf.new) result }
+    ensures spares { (files : Files) → H.files shelf.old ≡ Some files → SparesFiles user.now rel.now columns.now (file_of_constant constant.now) files (H.files shelf.new) result }
     ensures kept { B.database base.new ≡ B.database base.old }
     ensures stays { (s : Db) → B.schema base.old ≡ Some s → B.schema base.new ≡ Some s }
     ensures asked { (b : B) → B.asked b base.old → B.asked b base.new }
@@ -156,6 +159,9 @@ pub fn copy_into<B: Base, H: Shelf>(
     requires fits { (db : Db) → B.database base.old ≡ Some db → is_fit db user.now (checked.Utility u.now) ≡ true }
     ensures known { (db : Db) (files : Files) → B.database base.old ≡ Some db → H.files shelf.old ≡ Some files → (c : IsCopy u.now false)
         → IsStored (copied_into db user.now c.rel c.columns) (file_of_constant c.constant) files (H.files shelf.new) result }
+    // Whatever is known of the database, no file differs but the one that is stored, and its bytes are those of some rows.
+    ensures spares { (files : Files) → H.files shelf.old ≡ Some files → (c : IsCopy u.now false)
+        → SparesFiles user.now c.rel c.columns (file_of_constant c.constant) files (H.files shelf.new) result }
     ensures kept { B.database base.new ≡ B.database base.old }
     ensures stays { (s : Db) → B.schema base.old ≡ Some s → B.schema base.new ≡ Some s }
     ensures asked { (b : B) → B.asked b base.old → B.asked b base.new }

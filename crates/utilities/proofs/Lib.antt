@@ -4,3 +4,4 @@ pub mod Breaking
 pub mod Ascending
 pub mod Plans
 pub mod InUse
+pub mod Owner

@@ -1,6 +1,6 @@
 //! What refuses a utility because of the relation that it changes, and of the user.
 
-ghost use Rattle.std.specs.Prelude.{◌≡◌, ◌∷◌, [], is_some, IfOk, Some};
+ghost use Rattle.std.specs.Prelude.{◌≡◌, ◌∷◌, [], false, is_some, IfOk, None, Some};
 ghost use Rattle.base_trait.specs.Causes.{HasCause};
 ghost use Rattle.calculus.specs.Catalogue.{is_catalogue};
 ghost use Rattle.calculus.specs.Database.{Db, view_at};
@@ -50,6 +50,7 @@ fn not_the_owner(there: bool) -> Option<u8>
 /// What refuses a change of a relation of the user's, by its number, the first in this order: that
 /// the key is a catalogue's (28), a view's (26), or another's (24). `None` where nothing does. Asks
 /// the database for the administrator's name and for the view under the key, and changes nothing.
+#[tactic(auto, using(crate::proofs::Owner::the_owner))]
 pub fn owner_refusal<B: Base>(
     alloc: Global,
     base: &mut B,
@@ -57,6 +58,8 @@ pub fn owner_refusal<B: Base>(
     rel: &RelKey,
 ) -> Result<Option<u8>, BaseFault>
     ensures known { (db : Db) → B.schema base.old ≡ Some db → IfOk result (λ n. n ≡ first_refusal (owner_refusals db user.now rel.now)) }
+    // Whatever is known, nothing refuses only the owner.
+    ensures owner { IfOk result (λ n. n ≡ None → is_not_the_owner user.now rel.now ≡ false) }
     ensures kept { B.database base.new ≡ B.database base.old }
     ensures stays { (s : Db) → B.schema base.old ≡ Some s → B.schema base.new ≡ Some s }
     ensures asked { (b : B) → B.asked b base.old → B.asked b base.new }
@@ -64,7 +67,8 @@ pub fn owner_refusal<B: Base>(
 {
     match relation_refusal(alloc, base, rel) {
         Ok(None) => Ok(not_the_owner(is_not_the_owner(user, rel))),
-        other => other,
+        Ok(Some(cause)) => Ok(Some(cause)),
+        Err(fault) => Err(fault),
     }
 }
 

@@ -1,0 +1,4 @@
+pub mod Standing
+pub mod Working
+pub mod Laying
+pub mod Copying
