@@ -32,7 +32,7 @@ use Rattle.spelling_laws.proofs.Read.{grammatical_put_in}
 use Rattle.stage_parse.specs.declared.judged.Judged.{Judged}
 use Rattle.stage_parse.specs.declared.judged.Judged.TheVariants as judged
 use Rattle.stage_parse.specs.Checks.{IsChecked}
-use Rattle.stage_parse.specs.Judging.{AsksIt, IsDeclared, IsRefusal, IsRefused, IsShaped, IsTree, Judges, RefusesIt, SendsTree, WasRead, refused_at}
+use Rattle.stage_parse.specs.Judging.{AsksIt, IsDeclared, IsRefusal, IsRefused, IsShaped, IsTree, Judges, KeepsRanges, RefusesIt, SendsTree, WasRead, refused_at}
 
 -- what is read is written
 pub was_written : (s : Statement) → WasRead s → is_written s ≡ true
@@ -141,3 +141,10 @@ module _ (db : Db) (user : List ℕ) (ranges : Ranges) (s : Statement) (number :
 pub if_ok_to : {T E : Type 0} (r : Result T E) {P Q : T → Type 0} → ((x : T) → P x → Q x) → IfOk r P → IfOk r Q
 if_ok_to (Ok x) f h = f x h
 if_ok_to (Err e) f h = tt
+
+-- without a declaration the range variables stay
+pub keeps_any : {E : Type 0} (ranges : Ranges) (r : Result Judged E) → IfOk r (KeepsRanges ranges ranges)
+keeps_any ranges (Ok judged.Declared) = tt
+keeps_any ranges (Ok (judged.Refused m)) = refl
+keeps_any ranges (Ok (judged.Asks m)) = refl
+keeps_any ranges (Err e) = tt

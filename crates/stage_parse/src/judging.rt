@@ -93,11 +93,7 @@ fn asked_for<B: Base>(
 {
     let _ = user.bytes();
     match checked(alloc, s, user, ranges, base) {
-        Ok(tree) => {
-            let judged = sent(alloc, &tree, line);
-            drop(tree);
-            Ok(judged?)
-        }
+        Ok(tree) => Ok(sent(alloc, &tree, line)?),
         Err(CheckFault::No(number)) => Ok(Judged::Refused(refused(alloc, number, line)?)),
         Err(CheckFault::Base(fault)) => Err(fault),
         Err(CheckFault::OutOfMemory) => Err(BaseFault::OutOfMemory),

@@ -164,7 +164,8 @@ impl Parser {
                     line,
                     row: refusal.row,
                 };
-                self.out_left.put(message_for(alloc, lined)?)?;
+                let message = message_for(alloc, lined)?;
+                self.out_left.put(message)?;
                 self.at = At::Parsing;
                 self.got_right.clear();
                 Ok(())

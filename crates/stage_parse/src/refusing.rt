@@ -17,7 +17,8 @@ pub(crate) fn message_for(alloc: Global, refusal: Refusal) -> Result<Message, Ou
     requires { is_refusal_number refusal.code ≡ true }
     ensures { IfOk result (λ m. Spells m (said (replied (refused refusal)))) }
 {
-    match refusal_message(alloc, refusal)? {
+    let found = refusal_message(alloc, refusal)?;
+    match found {
         Some(message) => Ok(message),
         None => unreachable!(),
     }
@@ -37,7 +38,8 @@ pub(crate) fn refused(alloc: Global, code: u8, line: u32) -> Result<Message, Out
     ensures known { is_refusal_number code ≡ true → IfOk result (IsRefused code line) }
     ensures some { IfOk result (λ m. (number : ℕ) × IsRefused number line m) }
 {
-    match refusal_message(alloc, Refusal { code, line, row: 0 })? {
+    let found = refusal_message(alloc, Refusal { code, line, row: 0 })?;
+    match found {
         Some(message) => Ok(message),
         None => refused_by(alloc, PAST_LIMIT, line),
     }

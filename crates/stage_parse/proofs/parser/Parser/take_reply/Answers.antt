@@ -21,17 +21,17 @@ returns-in_ok-pass-in-Done-clause-taken c = λ who.
     done_right who c.args.self.now.ranges c.args.self.now.at c.args.line c.args.self.now.walk c.args.self.now.got_left c.args.self.now.got_right c.args.self.now.out_left c.args.self.now.out_right c.args.frame c.requires.line c.requires.wants
     c.pass.new.got c.pass.new.out (subst (λ (x : FromRight). CameAs c.args.self.now.got_right c.args.frame x) c.in-Done.is c.requires.came) c.in_ok-pass-in-Done.ensures.got c.in_ok-pass-in-Done.ensures.out
 
-pub message_for-requires : goal.message_for-requires
-message_for-requires c = number_known c.args.self.now.got_right c.args.frame c.in-Refused.refusal (subst (λ (x : FromRight). CameAs c.args.self.now.got_right c.args.frame x) c.in-Refused.is c.requires.came)
+pub message_for-message-requires : goal.message_for-message-requires
+message_for-message-requires c = number_known c.args.self.now.got_right c.args.frame c.in-Refused.refusal (subst (λ (x : FromRight). CameAs c.args.self.now.got_right c.args.frame x) c.in-Refused.is c.requires.came)
 
 pub put-requires : goal.put-requires
-put-requires c = (by_only _ _ _ c.in_ok-message_for-in-Refused.ensures).is_kind
+put-requires c = (by_only _ _ _ c.in_ok-message-in-Refused.ensures).is_kind
 
 pub returns-in_ok-put-in-Refused-clause-taken : goal.returns-in_ok-put-in-Refused-clause-taken
 returns-in_ok-put-in-Refused-clause-taken c = λ who.
     refused_right who c.args.self.now.ranges c.args.self.now.at c.args.line c.args.self.now.walk c.args.self.now.got_left c.args.self.now.got_right c.args.self.now.out_left c.args.self.now.out_right c.args.frame c.requires.line c.requires.wants
     c.in-Refused.refusal c.clear.new.self c.put.new.self (subst (λ (x : FromRight). CameAs c.args.self.now.got_right c.args.frame x) c.in-Refused.is c.requires.came) c.clear.ensures
-    (record { kind = _; bytes = _; spells = c.in_ok-message_for-in-Refused.ensures; behind = c.in_ok-put-in-Refused.ensures.ok })
+    (record { kind = _; bytes = _; spells = c.in_ok-message-in-Refused.ensures; behind = c.in_ok-put-in-Refused.ensures.ok })
 
 pub returns-in-End-clause-taken : goal.returns-in-End-clause-taken
 returns-in-End-clause-taken c = λ who.
