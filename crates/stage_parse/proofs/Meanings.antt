@@ -31,7 +31,9 @@ use Rattle.reading_laws.proofs.Statements.{computed_written}
 use Rattle.spelling_laws.proofs.Read.{grammatical_put_in}
 use Rattle.stage_parse.specs.declared.judged.Judged.{Judged}
 use Rattle.stage_parse.specs.declared.judged.Judged.TheVariants as judged
-use Rattle.stage_parse.specs.Checks.{IsChecked}
+use Rattle.utility_trees.specs.declared.fault.CheckFault.{CheckFault}
+use Rattle.utility_trees.specs.declared.fault.CheckFault.TheVariants as fault
+use Rattle.stage_parse.specs.Checks.{Checks, IsChecked}
 use Rattle.stage_parse.specs.Judging.{AsksIt, IsDeclared, IsRefusal, IsRefused, IsShaped, IsTree, Judges, KeepsRanges, RefusesIt, SendsTree, WasRead, refused_at}
 
 -- what is read is written
@@ -136,6 +138,10 @@ module _ (db : Db) (user : List ℕ) (ranges : Ranges) (s : Statement) (number :
     spells = sends (objection_has (asker_of user) db [] ranges s (refusal number) (refusal_means [])).known;
     means = refusal_means;
   }
+
+-- the number of a cause that is one
+pub number_of : (db : Db) (user : List ℕ) (ranges : Ranges) (s : Statement) (number : ℕ) (cause : CheckFault) → cause ≡ fault.No number → Checks db user ranges s (Err cause) → checked_tree db (asker_of user) ranges s ≡ Err number
+number_of db user ranges s number cause e h = subst (λ (x : CheckFault). Checks db user ranges s (Err x)) e h
 
 -- what holds of what comes, where it follows from what is said of it
 pub if_ok_to : {T E : Type 0} (r : Result T E) {P Q : T → Type 0} → ((x : T) → P x → Q x) → IfOk r P → IfOk r Q

@@ -118,3 +118,7 @@ hands_over s ranges at.Idle b gl gr ol or schema database h = λ works turn away
 hands_over s ranges at.Parsing b gl gr ol or schema database h = λ works turn away. absurd (cc away)
 hands_over s ranges (at.Passing line) b gl gr ol or schema database h = λ works turn away. h
 hands_over s ranges at.Ended b gl gr ol or schema database h = λ works turn away. h
+
+-- while it parses nothing has to be handed over
+pub handed_parsing : (here : At) (schema database : Option Db) → here ≡ at.Parsing → IsHanded here schema database
+handed_parsing here schema database e = subst (λ (x : At). IsHanded x schema database) (sym e) tt

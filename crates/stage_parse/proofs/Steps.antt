@@ -20,6 +20,7 @@ use Rattle.quel_grammar.specs.Next.{Next as Came, Nothing, Read, Syntax, Reading
 use Rattle.quel_grammar.specs.NextReader.{next_at}
 use Rattle.quel_grammar.proofs.Answered.{only_reading}
 use Rattle.quel_meaning.specs.Ranges.{Ranges}
+use Rattle.quel_parse.specs.declared.next.ParseFault.{ParseFault}
 use Rattle.quel_parse.specs.declared.next.ParseFault.TheVariants as fault
 use Rattle.quel_parse.specs.Next.{Answers}
 use Rattle.quel_network.specs.Quel.{quel}
@@ -59,8 +60,10 @@ none_next text next o answers e = subst (λ (x : Option (Statement × ℕ)). Ans
 pub some_next : (text : List ℕ) (next : Came) (o : Option (Statement × ℕ)) (s : Statement) (stop : ℕ) → Answers text next (Ok o) → o ≡ Some (s, stop) → next ≡ Read s stop
 some_next text next o s stop answers e = subst (λ (x : Option (Statement × ℕ)). Answers text next (Ok x)) e answers
 
-pub bad_next : (b : Batch) (line place : ℕ) → Answers b.text (next_at b.text b.from) (Err (fault.Syntax line place)) → IsBad b line
-bad_next b line place h = record { place = place; is = h.0; line_is = h.1 }
+pub bad_next : (b : Batch) (f : ParseFault) (line place : ℕ) → f ≡ fault.Syntax line place → Answers b.text (next_at b.text b.from) (Err f) → IsBad b line
+bad_next b f line place e answers =
+    let h = subst (λ (x : ParseFault). Answers b.text (next_at b.text b.from) (Err x)) e answers in
+    record { place = place; is = h.0; line_is = h.1 }
 
 -- ---- an act
 

@@ -8,6 +8,7 @@ use memory::List;
 use message_codec::StageMessage;
 
 /// What the parser takes from the left while it waits for a batch.
+#[derive(Drop)]
 pub(crate) enum FromLeft {
     /// A batch.
     Text(List<u8>),
@@ -15,14 +16,6 @@ pub(crate) enum FromLeft {
     Quit,
     /// What may not come there.
     Strange,
-}
-
-impl Drop for FromLeft {
-    fn drop(self) {
-        match self {
-            FromLeft::Text(_) | FromLeft::Quit | FromLeft::Strange => {}
-        }
-    }
 }
 
 /// What the parser takes from the right while it waits for what a statement is answered.

@@ -3,6 +3,7 @@
 use frame_codec::Message;
 
 /// What comes of a statement.
+#[derive(Drop)]
 pub(crate) enum Judged {
     /// Its range variable was declared.
     Declared,
@@ -10,12 +11,4 @@ pub(crate) enum Judged {
     Refused(Message),
     /// It asks for what this message is the tree of.
     Asks(Message),
-}
-
-impl Drop for Judged {
-    fn drop(self) {
-        match self {
-            Judged::Declared | Judged::Refused(_) | Judged::Asks(_) => {}
-        }
-    }
 }

@@ -1,5 +1,5 @@
 use Rattle.std.proofs.Common.{◌≡◌}
-use Rattle.stage_parse.proofs.Meanings.{refusal_shaped, refused_means, sent_means, was_written}
+use Rattle.stage_parse.proofs.Meanings.{number_of, refusal_shaped, refused_means, sent_means, was_written}
 use Rattle.stage_parse.proofs.judging.asked_for.Goals as goal
 
 pub checked-requires : goal.checked-requires
@@ -12,7 +12,7 @@ returns-in_ok-sent-in-Ok-clause-known g c = λ db h.
 
 pub returns-in_ok-refused-in-Err-No-clause-known : goal.returns-in_ok-refused-in-Err-No-clause-known
 returns-in_ok-refused-in-Err-No-clause-known g c = λ db h.
-    refused_means db c.args.user.now c.args.ranges.now c.args.s.now c.in-Err-No.number c.requires.other (c.in-Err-No.ensures.known db h) c.args.line _ c.in_ok-refused-in-Err-No.ensures.known
+    refused_means db c.args.user.now c.args.ranges.now c.args.s.now c.in-Err-No.number c.requires.other (number_of db c.args.user.now c.args.ranges.now c.args.s.now c.in-Err-No.number c.in-Err-No.field-0 c.in-Err-No.field-0-is (c.in-Err-No.ensures.known db h)) c.args.line _ c.in_ok-refused-in-Err-No.ensures.known
 
 pub returns-in_ok-refused-in-Err-No-clause-shaped : goal.returns-in_ok-refused-in-Err-No-clause-shaped
 returns-in_ok-refused-in-Err-No-clause-shaped g c =

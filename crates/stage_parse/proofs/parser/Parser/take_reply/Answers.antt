@@ -5,8 +5,8 @@ use Rattle.message_codec.specs.MessageLaws.{by_only}
 use Rattle.stage_parse.proofs.Arrivals.{done_right, end_right, kind_known, not_right, number_known, refused_right, shown_right}
 use Rattle.stage_parse.proofs.parser.Parser.take_reply.Goals as goal
 
-pub pass-requires-in-Shown : goal.pass-requires-in-Shown
-pass-requires-in-Shown c = kind_known c.args.self.now.got_right c.args.frame c.args.reply c.requires.came
+pub pass-requires : goal.pass-requires
+pass-requires c = kind_known c.args.self.now.got_right c.args.frame c.args.reply c.requires.came
 
 pub returns-in_ok-pass-in-Shown-clause-taken : goal.returns-in_ok-pass-in-Shown-clause-taken
 returns-in_ok-pass-in-Shown-clause-taken c = λ who.
@@ -19,10 +19,10 @@ pass-requires-in-Done c = kind_known c.args.self.now.got_right c.args.frame c.ar
 pub returns-in_ok-pass-in-Done-clause-taken : goal.returns-in_ok-pass-in-Done-clause-taken
 returns-in_ok-pass-in-Done-clause-taken c = λ who.
     done_right who c.args.self.now.ranges c.args.self.now.at c.args.line c.args.self.now.walk c.args.self.now.got_left c.args.self.now.got_right c.args.self.now.out_left c.args.self.now.out_right c.args.frame c.requires.line c.requires.wants
-    c.pass.new.got c.pass.new.out (subst (λ (x : FromRight). CameAs c.args.self.now.got_right c.args.frame x) c.in-Done.is c.requires.came) c.in_ok-pass-in-Done.ensures.got c.in_ok-pass-in-Done.ensures.out
+    c.pass-in-Done.new.got c.pass-in-Done.new.out (subst (λ (x : FromRight). CameAs c.args.self.now.got_right c.args.frame x) c.in-Done.is c.requires.came) c.in_ok-pass-in-Done.ensures.got c.in_ok-pass-in-Done.ensures.out
 
-pub message_for-message-requires : goal.message_for-message-requires
-message_for-message-requires c = number_known c.args.self.now.got_right c.args.frame c.in-Refused.refusal (subst (λ (x : FromRight). CameAs c.args.self.now.got_right c.args.frame x) c.in-Refused.is c.requires.came)
+pub message_for-requires : goal.message_for-requires
+message_for-requires c = number_known c.args.self.now.got_right c.args.frame c.in-Refused.refusal (subst (λ (x : FromRight). CameAs c.args.self.now.got_right c.args.frame x) c.in-Refused.is c.requires.came)
 
 pub put-requires : goal.put-requires
 put-requires c = (by_only _ _ _ c.in_ok-message-in-Refused.ensures).is_kind
@@ -36,7 +36,7 @@ returns-in_ok-put-in-Refused-clause-taken c = λ who.
 pub returns-in-End-clause-taken : goal.returns-in-End-clause-taken
 returns-in-End-clause-taken c = λ who.
     end_right who c.args.self.now.ranges c.args.self.now.at c.args.line c.args.self.now.walk c.args.self.now.got_left c.args.self.now.got_right c.args.self.now.out_left c.args.self.now.out_right c.args.frame c.requires.line c.requires.wants
-    c.clear.new.self (subst (λ (x : FromRight). CameAs c.args.self.now.got_right c.args.frame x) c.in-End.is c.requires.came) c.clear.ensures
+    c.clear-in-End.new.self (subst (λ (x : FromRight). CameAs c.args.self.now.got_right c.args.frame x) c.in-End.is c.requires.came) c.clear-in-End.ensures
 
 pub returns-in-Strange-clause-unlawful : goal.returns-in-Strange-clause-unlawful
 returns-in-Strange-clause-unlawful c = λ who wrong.

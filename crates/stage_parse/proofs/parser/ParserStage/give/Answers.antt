@@ -12,4 +12,4 @@ returns-then-is_empty-clause-given c =
 
 pub returns-else-is_empty-clause-given : goal.returns-else-is_empty-clause-given
 returns-else-is_empty-clause-given c =
-    if_ok_to c.give.result (λ frame e. given_left c.args.self.now.ranges c.args.self.now.at c.args.self.now.walk c.args.self.now.got_left c.args.self.now.got_right c.args.self.now.out_left c.give.new.self c.args.self.now.out_right frame e) c.give.ensures.given
+    if_ok_to c.give-else-is_empty.result (λ frame e. given_left c.args.self.now.ranges c.args.self.now.at c.args.self.now.walk c.args.self.now.got_left c.args.self.now.got_right c.args.self.now.out_left c.give-else-is_empty.new.self c.args.self.now.out_right frame e) c.give-else-is_empty.ensures.given

@@ -7,8 +7,8 @@ take_left-requires c = wants_left c.args.self.now.ranges c.args.self.now.at c.ar
 pub take_right-requires-clause-wants : goal.take_right-requires-clause-wants
 take_right-requires-clause-wants c = wants_right c.args.self.now.ranges c.args.self.now.at c.in-Passing.line c.args.self.now.walk c.args.self.now.got_left c.args.self.now.got_right c.args.self.now.out_left c.args.self.now.out_right c.in-Passing.is c.requires
 
-pub prove-unreachable-requires-in-Parsing : goal.prove-unreachable-requires-in-Parsing
-prove-unreachable-requires-in-Parsing c = not_parsing c.args.self.now.ranges c.args.self.now.at c.args.self.now.walk c.args.self.now.got_left c.args.self.now.got_right c.args.self.now.out_left c.args.self.now.out_right c.requires c.in-Parsing.is
+pub unreachable-requires : goal.unreachable-requires
+unreachable-requires c = not_parsing c.args.self.now.ranges c.args.self.now.at c.args.self.now.walk c.args.self.now.got_left c.args.self.now.got_right c.args.self.now.out_left c.args.self.now.out_right c.requires c.in-Parsing.is
 
-pub prove-unreachable-requires-in-Ended : goal.prove-unreachable-requires-in-Ended
-prove-unreachable-requires-in-Ended c = not_ended c.args.self.now.ranges c.args.self.now.at c.args.self.now.walk c.args.self.now.got_left c.args.self.now.got_right c.args.self.now.out_left c.args.self.now.out_right c.requires c.in-Ended.is
+pub unreachable-requires-in-Ended : goal.unreachable-requires-in-Ended
+unreachable-requires-in-Ended c = not_ended c.args.self.now.ranges c.args.self.now.at c.args.self.now.walk c.args.self.now.got_left c.args.self.now.got_right c.args.self.now.out_left c.args.self.now.out_right c.requires c.in-Ended.is

@@ -2,7 +2,7 @@ use Rattle.std.proofs.Common.{refl}
 use Rattle.net_core.proofs.Faulty.{reads_nothing}
 use Rattle.net_core.specs.Known.{Outside, outside}
 use Rattle.quel_network.specs.Quel.{quel}
-use Rattle.stage_parse.proofs.AtWork.{cause_any, counts_any, crash_any, database_any, durable_any, failed_any, inside_any, lawful_any, on_ok_to, spares_any, within_any, works_any}
+use Rattle.stage_parse.proofs.AtWork.{cause_any, changed, counts_any, crash_any, database_any, durable_any, failed_any, inside_any, lawful_any, on_ok_to, spares_any, within_any, works_any}
 use Rattle.stage_parse.specs.Parsing.{stands}
 use Rattle.stage_parse.specs.Standing.{mode_at}
 use Rattle.stage_parse.proofs.Places.{hands_over, is_parsing, quiet_any}
@@ -73,4 +73,4 @@ returns-clause-durable g c =
 pub returns-clause-quiet : goal.returns-clause-quiet
 returns-clause-quiet g c =
     let before : Outside = outside g.B.Base.database g.B.Base.faults g.B.Base.clock g.B.Base.reads g.H.Shelf.files g.H.Shelf.faults g.S.Source.left g.S.Source.given g.S.Source.faults g.K.Sink.written g.K.Sink.faults g.K.Sink.stalls c.args.room.now in
-    quiet_any c.args.self.now.ranges c.args.self.now.at c.args.self.now.walk c.args.self.now.got_left c.args.self.now.got_right c.args.self.now.out_left c.args.self.now.out_right before _ (is_parsing c.args.self.now.ranges c.args.self.now.at c.args.self.now.walk c.args.self.now.got_left c.args.self.now.got_right c.args.self.now.out_left c.args.self.now.out_right c.requires)
+    quiet_any c.args.self.now.ranges c.args.self.now.at c.args.self.now.walk c.args.self.now.got_left c.args.self.now.got_right c.args.self.now.out_left c.args.self.now.out_right before (changed before (g.B.Base.database c.parse_on.new.base) (g.B.Base.faults c.parse_on.new.base) (g.B.Base.clock c.parse_on.new.base) (g.B.Base.reads c.parse_on.new.base)) (is_parsing c.args.self.now.ranges c.args.self.now.at c.args.self.now.walk c.args.self.now.got_left c.args.self.now.got_right c.args.self.now.out_left c.args.self.now.out_right c.requires)
