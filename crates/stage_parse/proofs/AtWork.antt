@@ -1,9 +1,9 @@
 -- A piece of work of the parser, as the contract of stages has it: only the database is asked.
-use Rattle.std.proofs.Common.{IfErr, IsErrOf, OnErr, OnOk, ◌≡◌, ◌≤◌, inl, ℕ, List, [], Option, Some, None, Result, Ok, Err, refl, sym, ap, subst, ◌∙◌, append-nil}
+use Rattle.std.proofs.Common.{IfErr, IsErrOf, OnErr, OnOk, ◌≡◌, ◌≤◌, inl, ℕ, List, [], Option, Result, Ok, Err, refl, sym, ap, subst, ◌∙◌, append-nil}
 use Rattle.std.proofs.KnownBytes.{Appends-nil}
 use Rattle.std.proofs.lemmas.Option.{same_Some}
 use Rattle.base_trait.proofs.Crashes.{asked_leaves, still_stands}
-use Rattle.base_trait.specs.Causes.{HasCause, IsCaused as IsBaseCaused, MayCome as BaseMayCome}
+use Rattle.base_trait.specs.Causes.{MayCome as BaseMayCome}
 use Rattle.base_trait.specs.Crashes.{AllDenote, LeavesBut}
 use Rattle.base_trait.specs.declared.fault.BaseFault.{BaseFault}
 use Rattle.base_trait.specs.declared.fault.BaseFault.TheVariants as base_faults

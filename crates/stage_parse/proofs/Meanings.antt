@@ -1,6 +1,5 @@
 -- What comes of a statement, by what was found and checked.
 use Rattle.std.proofs.Common.{IfOk, ◌≡◌, ℕ, Bool, true, false, List, [], Option, Some, None, Result, Ok, Err, refl, sym, ap, subst, ◌∙◌}
-use Rattle.calculus.specs.declared.reply.Refusal.{Refusal}
 use Rattle.calculus.specs.declared.request.Checked.{Checked}
 use Rattle.calculus.specs.declared.schema.RelInfo.{RelInfo}
 use Rattle.calculus.specs.declared.statement.Statement.{Statement}
@@ -9,22 +8,21 @@ use Rattle.calculus.specs.Database.{Db}
 use Rattle.calculus.specs.Finding.{found}
 use Rattle.calculus.specs.IsDatabase.{IsDatabase}
 use Rattle.calculus.specs.Name.{is_name}
-use Rattle.calculus.specs.Who.{Asker, AsUser, Unrestricted, asker_of, as_user}
+use Rattle.calculus.specs.Who.{Asker, AsUser, asker_of, as_user}
 use Rattle.fault_io.specs.Files.{Files}
 use Rattle.frame_codec.specs.declared.message.Message.{Message}
 use Rattle.message_codec.specs.MessageLaws.{tree_by}
-use Rattle.network_meaning.specs.Sorts.{Cargo.tree, Message.cargo, Meaning, Meaning.names, Meaning.objects, Meaning.runs}
+use Rattle.network_meaning.specs.Sorts.{Meaning.names, Meaning.objects, Meaning.runs}
 use Rattle.quel_grammar.specs.NextReader.{next_at}
 use Rattle.quel_grammar.proofs.Answered.{reads}
 use Rattle.quel_meaning.specs.Copying.{refusal}
 use Rattle.quel_meaning.specs.IsWritten.{is_written}
-use Rattle.quel_meaning.specs.Meaning.{Effect, checked_permitted, checked_tree, checked_tree_by, is_range, permitted_tree, ruled_tree, tree_if_permitted, tree_meaning}
+use Rattle.quel_meaning.specs.Meaning.{Effect, checked_permitted, checked_tree, checked_tree_by, is_range, permitted_tree, tree_if_permitted}
 use Rattle.quel_meaning.specs.Ranges.{Ranges, declared}
 use Rattle.quel_meaning.specs.Resolved.{resolved}
-use Rattle.quel_network.specs.Sorts.{quel_sorts}
 use Rattle.quel_network.specs.Spelling.{is_refusal_number}
 use Rattle.quel_network.specs.TreeRefusals.{objection_has}
-use Rattle.quel_network.specs.Trees.{IsFitTree, checked_meaning, meaning_of, outcome_of_effect, outcome_of_tree, range_meaning}
+use Rattle.quel_network.specs.Trees.{checked_meaning, meaning_of, outcome_of_effect, outcome_of_tree, range_meaning}
 use Rattle.quel_tree.specs.Message.{most_tree_levels}
 use Rattle.quel_tree.specs.Requests.{checked as checked_codec}
 use Rattle.reading_laws.proofs.Statements.{computed_written}
@@ -34,7 +32,7 @@ use Rattle.stage_parse.specs.declared.judged.Judged.TheVariants as judged
 use Rattle.utility_trees.specs.declared.fault.CheckFault.{CheckFault}
 use Rattle.utility_trees.specs.declared.fault.CheckFault.TheVariants as fault
 use Rattle.stage_parse.specs.Checks.{Checks, IsChecked}
-use Rattle.stage_parse.specs.Judging.{AsksIt, IsDeclared, IsRefusal, IsRefused, IsShaped, IsTree, Judges, KeepsRanges, RefusesIt, SendsTree, WasRead, refused_at}
+use Rattle.stage_parse.specs.Judging.{IsDeclared, IsRefusal, IsRefused, IsTree, Judges, KeepsRanges, RefusesIt, SendsTree, WasRead}
 
 -- what is read is written
 pub was_written : (s : Statement) → WasRead s → is_written s ≡ true

@@ -1,12 +1,12 @@
 -- Where the parser stands, by what it wants, and what it gives there.
-use Rattle.std.proofs.Common.{◌≡◌, ◌⊎◌, inl, inr, ℕ, true, false, List, [], ◌∷◌, Option, Some, refl, sym, subst, ◌∙◌}
+use Rattle.std.proofs.Common.{◌≡◌, ◌⊎◌, inl, inr, ℕ, true, false, List, [], ◌∷◌, Option, refl, sym, subst, ◌∙◌}
 use Rattle.calculus.specs.Database.{Db}
 use Rattle.frame_codec.specs.declared.frame.Frame.{Frame}
 use Rattle.net_core.specs.Crashes.{HandsOver, QuietWithout}
 use Rattle.net_core.specs.Known.{Outside}
 use Rattle.net_core.specs.Wants.{IsToGive, IsToTake}
 use Rattle.network_meaning.specs.Calls.{Given}
-use Rattle.network_meaning.specs.LocalSteps.{Mode, Want, Want.take_left, Want.take_right, Want.give_left, Want.give_right, Want.work, Want.none, want_of}
+use Rattle.network_meaning.specs.LocalSteps.{Want, Want.take_left, Want.take_right, Want.give_left, Want.give_right, Want.work, Want.none, want_of}
 use Rattle.network_meaning.specs.Network.{LocalState, want}
 use Rattle.network_meaning.specs.Turn.{has_turn}
 use Rattle.quel_meaning.specs.Ranges.{Ranges}

@@ -14,8 +14,7 @@ use Rattle.network_meaning.specs.Frames.{frames, spell}
 use Rattle.network_meaning.specs.LocalSteps.{Act, Checks, Mode, Mode.idle2, Mode.parsing, Mode.passing2, Parses, Room, hands, says, turns_to}
 use Rattle.network_meaning.specs.Network.{LocalState, done_act}
 use Rattle.network_meaning.specs.Sorts.{Meaning, Message, Next, Cargo.tree, Reply.refused, Said.replied, Message.cargo, Message.said, Message.end, Meaning.names, Meaning.objects, Meaning.runs, Next.no_more, Next.bad, Next.found}
-use Rattle.network_meaning.specs.Spelled.{Spelled}
-use Rattle.network_meaning.specs.WorkShape.{CheckShape, CheckShape.names as declares, CheckShape.objects as refuses, CheckShape.runs as asks, ParseShape}
+use Rattle.network_meaning.specs.WorkShape.{CheckShape.names as declares, CheckShape.objects as refuses, CheckShape.runs as asks, ParseShape}
 use Rattle.quel_grammar.specs.Next.{Next as Came, Nothing, Read, Syntax, Reading, first_offset, line_at}
 use Rattle.quel_grammar.specs.NextReader.{next_at}
 use Rattle.quel_grammar.proofs.Answered.{only_reading}
@@ -25,15 +24,14 @@ use Rattle.quel_parse.specs.declared.next.ParseFault.TheVariants as fault
 use Rattle.quel_parse.specs.Next.{Answers}
 use Rattle.quel_network.specs.Quel.{quel}
 use Rattle.quel_network.specs.Sorts.{Batch, User, quel_sorts}
-use Rattle.quel_network.specs.Spelling.{message_by}
 use Rattle.quel_network.specs.Trees.{IsFitTree, meaning_of, next_in, next_of, outcome_of_tree}
 use Rattle.stage_parse.specs.declared.at.At.{At}
 use Rattle.stage_parse.specs.declared.at.At.TheVariants as at
 use Rattle.stage_parse.specs.declared.judged.Judged.{Judged}
 use Rattle.stage_parse.specs.declared.judged.Judged.TheVariants as judged
-use Rattle.stage_parse.specs.Judging.{AsksIt, IsRefusal, IsRefused, IsShaped, IsTree, Judges, KeepsRanges, RefusesIt, Spells, left_frames, refused_at, right_frames}
+use Rattle.stage_parse.specs.Judging.{AsksIt, IsRefusal, IsShaped, IsTree, Judges, KeepsRanges, RefusesIt, Spells, left_frames, refused_at, right_frames}
 use Rattle.stage_parse.specs.Parsing.{Gives, HasParsed, IsBad, at_behind}
-use Rattle.stage_parse.specs.Standing.{mode_at, standing}
+use Rattle.stage_parse.specs.Standing.{standing}
 
 -- ---- what is next
 

@@ -214,7 +214,13 @@ impl Parser {
         ensures asked { (b : B) → B.asked b base.old → B.asked b base.new }
         ensures cause { HasCause (B.database base.old) (B.faults base.old) (B.faults base.new) result }
     {
-        give_end(alloc, base, &mut self.at, &mut self.walk, &mut self.out_left)
+        give_end(
+            alloc,
+            base,
+            &mut self.at,
+            &mut self.walk,
+            &mut self.out_left,
+        )
     }
 
     /// No statement is next in the batch: it is refused at this line, and its end is given.
@@ -230,7 +236,13 @@ impl Parser {
     {
         let message = refused_by(alloc, SYNTAX, line)?;
         self.out_left.put(message)?;
-        give_end(alloc, base, &mut self.at, &mut self.walk, &mut self.out_left)
+        give_end(
+            alloc,
+            base,
+            &mut self.at,
+            &mut self.walk,
+            &mut self.out_left,
+        )
     }
 
     /// This statement is next, which begins there and ends here.

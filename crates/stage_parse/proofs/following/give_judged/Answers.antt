@@ -1,4 +1,3 @@
-use Rattle.message_codec.specs.MessageLaws.{by_only}
 use Rattle.stage_parse.proofs.Steps.{refusal_kind, tree_kind}
 use Rattle.stage_parse.proofs.following.give_judged.Goals as goal
 

@@ -1,4 +1,4 @@
-use Rattle.std.proofs.Common.{◌≡◌, true, ap, ◌∙◌}
+use Rattle.std.proofs.Common.{ap, ◌∙◌}
 use Rattle.frame_codec.specs.Messages.{is_message_kind}
 use Rattle.stage_parse.proofs.following.pass.Goals as goal
 

@@ -1,4 +1,3 @@
-use Rattle.std.proofs.Common.{◌≡◌}
 use Rattle.stage_parse.proofs.Meanings.{number_of, refusal_shaped, refused_means, sent_means, was_written}
 use Rattle.stage_parse.proofs.judging.asked_for.Goals as goal
 

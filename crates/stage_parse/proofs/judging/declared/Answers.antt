@@ -1,4 +1,4 @@
-use Rattle.std.proofs.Common.{◌≡◌, ◌∙◌, sym, ap}
+use Rattle.std.proofs.Common.{◌∙◌, sym, ap}
 use Rattle.quel_meaning.specs.Ranges.{declared}
 use Rattle.calculus.specs.Finding.{found}
 use Rattle.stage_parse.proofs.Meanings.{declares_none, declares_some, refusal_shaped}

@@ -1,5 +1,4 @@
 use Rattle.std.proofs.Common.{◌≡◌}
-use Rattle.std.specs.Prelude.{IfOk}
 use Rattle.calculus.specs.declared.statement.Statement.TheVariants.{Range}
 use Rattle.stage_parse.proofs.Meanings.{declared_means, if_ok_to, keeps_any}
 use Rattle.stage_parse.proofs.judging.judge.Goals as goal

@@ -1,4 +1,3 @@
-use Rattle.std.proofs.Common.{◌≡◌, sym}
 use Rattle.stage_parse.proofs.Meanings.{refusal_shaped, tree_sent, tree_shaped}
 use Rattle.stage_parse.proofs.judging.sent.Goals as goal
 

@@ -1,6 +1,5 @@
 use Rattle.stage_parse.proofs.AtWork.{on_ok_both}
 use Rattle.stage_parse.proofs.Steps.{ended_so}
-use Rattle.quel_network.specs.Quel.{quel}
 use Rattle.stage_parse.proofs.parser.Parser.end.Goals as goal
 
 pub returns-clause-parsed : goal.returns-clause-parsed

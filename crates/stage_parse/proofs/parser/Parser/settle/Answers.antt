@@ -1,4 +1,4 @@
-use Rattle.std.proofs.Common.{◌≡◌, ◌∙◌, ap}
+use Rattle.std.proofs.Common.{◌∙◌, ap}
 use Rattle.quel_grammar.specs.Next.{line_at}
 use Rattle.stage_parse.proofs.Steps.{settled_so}
 use Rattle.stage_parse.proofs.parser.Parser.settle.Goals as goal

@@ -1,4 +1,4 @@
-use Rattle.std.proofs.Common.{◌≡◌, subst}
+use Rattle.std.proofs.Common.{subst}
 use Rattle.stage_parse.specs.declared.arriving.FromRight.{FromRight}
 use Rattle.stage_parse.specs.Arriving.{CameAs}
 use Rattle.message_codec.specs.MessageLaws.{by_only}

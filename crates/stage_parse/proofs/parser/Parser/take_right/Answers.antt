@@ -1,4 +1,3 @@
-use Rattle.std.proofs.Common.{◌≡◌}
 use Rattle.stage_parse.proofs.Arrivals.{bad_right, part_right}
 use Rattle.stage_parse.proofs.parser.Parser.take_right.Goals as goal
 

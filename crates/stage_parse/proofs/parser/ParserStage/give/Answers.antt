@@ -1,4 +1,3 @@
-use Rattle.std.proofs.Common.{◌≡◌, []}
 use Rattle.stage_parse.proofs.Meanings.{if_ok_to}
 use Rattle.stage_parse.proofs.Places.{given_left, given_right, right_some}
 use Rattle.stage_parse.proofs.parser.ParserStage.give.Goals as goal
