@@ -1,10 +1,20 @@
-//! The parser's part of a statement's way: from the statement to a tree that is fit for the database and
-//! means unrestricted what the statement means for its user.
+//! The second of the four stages, the parser: from the user's statements to trees that are fit for the
+//! database and mean unrestricted what the statements mean for the user.
 #![tactic(auto)]
 
+mod arriving;
+mod at;
 mod checking;
+mod counted;
 mod cutting;
+mod following;
+mod judged;
+mod judging;
+mod parser;
+mod refusing;
 mod ruling;
 mod taking;
+mod walk;
 
 pub use checking::checked;
+pub use parser::Parser;
