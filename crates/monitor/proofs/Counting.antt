@@ -47,6 +47,9 @@ stores_later _ h = absurd h
 pub shelf_same : {T : Type 0} (n : ℕ) (x : T) → CountsShelf n n (Ok x)
 shelf_same n x = record { later = omega arith; says = refl }
 
+pub shelf_as : {T U : Type 0} {before now : ℕ} (x : T) (y : U) → CountsShelf before now (Ok x) → CountsShelf before now (Ok y)
+shelf_as x y h = record { later = h.later; says = h.says }
+
 -- a call of the shelf answered, failed, or found no memory
 pub shelf_ok : {T U : Type 0} {before now : ℕ} (x : T) (y : U) → HasShelfCause before now (Ok x) → CountsShelf before now (Ok y)
 shelf_ok x y h = record { later = h.later; says = h.otherwise (λ e. cc e) }
@@ -85,6 +88,9 @@ shelf_behind {T} {U} {before} {mid} {now} x r h k = subst (λ (n : ℕ). CountsS
 
 pub sink_same : {T : Type 0} (n m : ℕ) (x : T) → CountsSink n n m m (Ok x)
 sink_same n m x = record { later = omega arith; stalls_later = omega arith; says = (refl, refl) }
+
+pub sink_as : {T U : Type 0} {before now stalls stalls' : ℕ} (x : T) (y : U) → CountsSink before now stalls stalls' (Ok x) → CountsSink before now stalls stalls' (Ok y)
+sink_as x y h = record { later = h.later; stalls_later = h.stalls_later; says = h.says }
 
 -- it was not called, and the fault isn't its own
 pub sink_unused : {T : Type 0} (n m : ℕ) (f : WorkFault) (r : Result T WorkFault) → r ≡ Err f → SinkSays n n m m f → CountsSink n n m m r

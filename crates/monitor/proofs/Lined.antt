@@ -13,7 +13,7 @@ use Rattle.net_core.specs.Reads.{CountsHeard, EndsWithin, ReadsNoLine, ReadsOfLi
 use Rattle.quel_meaning.specs.Lines.{is_no_newline, lines_of}
 use Rattle.quel_meaning.proofs.LineLaws.{line_first, line_last}
 use Rattle.monitor.specs.Faults.{IsLater}
-use Rattle.monitor.specs.Lines.{HasLine, IsByte, IsLine, IsOneLine, SourceRead, SourceSays, byte_count}
+use Rattle.monitor.specs.Lines.{HasLine, IsByte, IsLine, IsOneLine, SourceRead, SourceSays}
 use Rattle.monitor.proofs.Erring.{same_err}
 
 -- ---- the line
@@ -177,9 +177,8 @@ line_begun line heard left given before e = subst (λ (x : List ℕ). HasLine x 
 })
 
 pub line_grown : {heard h h' : ℕ} {left l l' : Option (List ℕ)} {given g g' before n n' : ℕ} (line line' : List ℕ) (b : ℕ) (o : Option ℕ) → o ≡ Some b → HasLine line heard h left l given g before n
-    → ((script : List ℕ) → l ≡ Some script → IsByte script o l') → SourceRead h h' l l' g g' n n' (Ok o) → h' ≡ h + byte_count o → (b == 10) ≡ false → line' ≡ line ++ b ∷ [] → HasLine line' heard h' left l' given g' before n'
+    → ((script : List ℕ) → l ≡ Some script → IsByte script o l') → SourceRead h h' l l' g g' n n' (Ok o) → h' ≡ h + 1 → (b == 10) ≡ false → line' ≡ line ++ b ∷ [] → HasLine line' heard h' left l' given g' before n'
 line_grown {heard} {h} {h'} {left} {l} {l'} {given} {g} {g'} {before} {n} {n'} line line' b o some was byte read more other grown =
-    let one : h' ≡ h + 1 = more ∙ ap (λ (x : Option ℕ). h + byte_count x) some in
     let long = length-append line (b ∷ []) in
     let all = ap length grown in
     record {
@@ -188,7 +187,7 @@ line_grown {heard} {h} {h'} {left} {l} {l'} {given} {g} {g'} {before} {n} {n'} l
           let old = was.script script known in
           let now = line_grows script line old.0 b l' old.2 (first_byte old.0 o b l' some (byte old.0 old.1)) in
           (now.0, now.1, now.2 ∙ ap (λ (x : List ℕ). x ++ now.0) (sym grown));
-      many = omega (arith, one, long, all, was.many);
+      many = omega (arith, more, long, all, was.many);
       counted = heard_more heard h h' given g g' was.counted read.counted;
       within = λ le. read.within (was.within le);
       same = read.says ∙ was.same;
@@ -290,21 +289,35 @@ source_err {T} {U} {heard} {heard'} {left} {left'} {given} {given'} {before} {no
   says = h.says;
 })
 
--- nothing was read, and the source isn't at fault
+-- an answer behind an answer
+pub source_as : {T U : Type 0} {heard heard' : ℕ} {left left' : Option (List ℕ)} {given given' before now : ℕ} (x : T) (y : U) → SourceRead heard heard' left left' given given' before now (Ok x) → SourceRead heard heard' left left' given given' before now (Ok y)
+source_as x y h = source_behind x (Ok y) tt h
+
+-- a fault that isn't the source's, behind an answer
+pub source_then : {T U : Type 0} {heard heard' : ℕ} {left left' : Option (List ℕ)} {given given' before now : ℕ} (x : T) (f : WorkFault) → IsLater f → SourceRead heard heard' left left' given given' before now (Ok x)
+    → SourceRead {T = U} heard heard' left left' given given' before now (Err f)
+source_then x f l h = source_behind x (Err f) l h
+
+-- nothing was read
+pub source_same : {T : Type 0} (heard : ℕ) (left : Option (List ℕ)) (given before : ℕ) (x : T) → SourceRead heard heard left left given given before before (Ok x)
+source_same heard left given before x = record {
+  line = λ script known. nothing_read heard script left known;
+  broken = λ e script known. absurd (cc e);
+  counted = (0, omega arith, inl (omega arith));
+  within = λ le. le;
+  later = omega arith;
+  says = refl;
+}
+
+-- and the source isn't at fault
 pub source_unread : {T : Type 0} (heard : ℕ) (left : Option (List ℕ)) (given before : ℕ) (r : Result T WorkFault) → IfErr r (λ f. IsLater f) → SourceRead heard heard left left given given before before r
-source_unread heard left given before r l = source_behind tt r l (same heard left given before)
-  where
-    same : (heard : ℕ) (left : Option (List ℕ)) (given before : ℕ) → SourceRead {T = Unit {0}} heard heard left left given given before before (Ok tt)
-    same heard left given before = record {
-      line = λ script known. nothing_read heard script left known;
-      broken = λ e script known. absurd (cc e);
-      counted = (0, omega arith, inl (omega arith));
-      within = λ le. le;
-      later = omega arith;
-      says = refl;
-    }
+source_unread heard left given before r l = source_behind tt r l (source_same {T = Unit {0}} heard left given before tt)
 
 -- a line was read, and its bytes and the end were counted
 pub line_on : {T : Type 0} {heard h h' : ℕ} {left l l' : Option (List ℕ)} {given g g' before n n' : ℕ} (line : List ℕ) (o : Option ℕ) (r : Result T WorkFault) → IfErr r (λ f. IsLater f) → HasLine line heard h left l given g before n
     → SourceRead h h' l l' g g' n n' (Ok o) → SourceRead heard h' left l' given g' before n' r
 line_on line o r l was read = source_behind o r l (line_ok line o was read)
+
+pub line_as : {T : Type 0} {heard h h' : ℕ} {left l l' : Option (List ℕ)} {given g g' before n n' : ℕ} (line : List ℕ) (o : Option ℕ) (x : T) → HasLine line heard h left l given g before n
+    → SourceRead h h' l l' g g' n n' (Ok o) → SourceRead heard h' left l' given g' before n' (Ok x)
+line_as line o x was read = source_as o x (line_ok line o was read)

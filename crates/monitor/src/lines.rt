@@ -6,12 +6,10 @@ ghost use Rattle.monitor.specs.Faults.{IsOfLine};
 ghost use Rattle.monitor.specs.Lines.{IsByte, IsLine, IsOneLine, SourceRead, byte_count};
 
 use calculus::OutOfMemory;
+use calculus::limits::MOST_SCRIPT_BYTES;
 use fault_io::{Failed, Source};
 use net_core::WorkFault;
 use std::alloc::Global;
-
-/// The greatest number of bytes of a script.
-const LONGEST_SCRIPT: usize = 16_777_216;
 
 /// The next byte of a source; none at its end.
 fn next_byte<S: Source>(source: &mut S) -> Result<Option<u8>, Failed>
@@ -33,11 +31,11 @@ fn next_byte<S: Source>(source: &mut S) -> Result<Option<u8>, Failed>
 fn read_byte<S: Source>(source: &mut S, heard: &mut usize) -> Result<Option<u8>, WorkFault>
     ensures byte { (script : List ℕ) → S.left source.old ≡ Some script → IfOk result (λ byte. IsByte script byte (S.left source.new)) }
     ensures source { SourceRead heard.old heard.new (S.left source.old) (S.left source.new) (S.given source.old) (S.given source.new) (S.faults source.old) (S.faults source.new) result }
-    ensures counts { IfOk result (λ byte. heard.new ≡ heard.old + byte_count byte) }
+    ensures counts { IfOk result (λ byte. IfSome byte (λ _. heard.new ≡ heard.old + 1)) }
     ensures short { IfOk result (λ byte. IfSome byte (λ _. heard.new ≤ 16777216)) }
     ensures inside { IfErr result (λ fault. IsOfLine fault) }
 {
-    if *heard > LONGEST_SCRIPT {
+    if *heard > MOST_SCRIPT_BYTES {
         return Err(WorkFault::TooLong);
     }
     match next_byte(source) {
@@ -45,7 +43,7 @@ fn read_byte<S: Source>(source: &mut S, heard: &mut usize) -> Result<Option<u8>,
         Ok(None) => Ok(None),
         Ok(Some(byte)) => {
             *heard += 1;
-            if *heard > LONGEST_SCRIPT {
+            if *heard > MOST_SCRIPT_BYTES {
                 return Err(WorkFault::TooLong);
             }
             Ok(Some(byte))

@@ -21,26 +21,13 @@ use crate::lines::read_line;
 use crate::open_files::OpenFiles;
 use crate::parts::Parts;
 use crate::replies::push_reply;
+use calculus::limits::{MOST_INCLUDES, MOST_SCRIPT_BYTES};
+use calculus::refusals::{INCLUDE_LIMIT, NO_COMMAND, NO_FILE};
 use calculus::{List, OutOfMemory, Refusal, Reply};
 use fault_io::{Shelf, ShelfFault, Source};
 use net_core::WorkFault;
 use std::alloc::Global;
 use std::marker::Model;
-
-/// The number of the refusal of a word that is no command, or of a command that lacks its file.
-const NO_COMMAND: u8 = 2;
-
-/// The number of the refusal of a file that may not be included.
-const INCLUDE_LIMIT: u8 = 3;
-
-/// The number of the refusal of a file that isn't there.
-const NO_FILE: u8 = 32;
-
-/// How many included files may be open at once.
-const MOST_OPEN: usize = 8;
-
-/// The greatest number of bytes of all files that are included.
-const MOST_INCLUDED: usize = 16_777_216;
 
 /// Where the monitor stands in a script: its buffer, the bytes of all files that were included, what is
 /// left of the present line, and the included files that are open.
@@ -113,7 +100,7 @@ fn copied(alloc: Global, bytes: &[u8]) -> Result<List<u8>, ShelfFault>
 fn may_include(length: usize, included: usize, opened: usize) -> bool
     ensures { result ≡ may_open length included opened }
 {
-    opened < MOST_OPEN && length <= MOST_INCLUDED && included <= MOST_INCLUDED - length
+    opened < MOST_INCLUDES && length <= MOST_SCRIPT_BYTES && included <= MOST_SCRIPT_BYTES - length
 }
 
 impl Reader {

@@ -69,13 +69,13 @@ pub returns-in_err-put-clause-source : goal.returns-in_err-put-clause-source
 returns-in_err-put-clause-source g c =
     let f = c.in_err-put.field-0.0 in
     let r = c.from_residual-in_err-put.result in
-    source_behind c.in_ok-event.event r (if_err r f (λ x. IsLater x) (handed_on r f c.from_residual-in_err-put.ensures.1) (prints_later f c.in_err-put.ensures.inside)) c.in_ok-event.ensures.source
+    source_behind _ r (if_err r f (λ x. IsLater x) (handed_on r f c.from_residual-in_err-put.ensures.1) (prints_later f c.in_err-put.ensures.inside)) c.in_ok-event.ensures.source
 
 pub returns-in_err-put-clause-shelf : goal.returns-in_err-put-clause-shelf
 returns-in_err-put-clause-shelf g c =
     let f = c.in_err-put.field-0.0 in
     let r = c.from_residual-in_err-put.result in
-    shelf_printing c.in_ok-event.event f r (handed_on r f c.from_residual-in_err-put.ensures.1) c.in_err-put.ensures.inside c.in_ok-event.ensures.shelf
+    shelf_printing _ f r (handed_on r f c.from_residual-in_err-put.ensures.1) c.in_err-put.ensures.inside c.in_ok-event.ensures.shelf
 
 pub returns-in_err-put-clause-sink : goal.returns-in_err-put-clause-sink
 returns-in_err-put-clause-sink g c =
@@ -126,13 +126,13 @@ returns-clause-part g c =
     (λ i. c.settle.ensures.failed i.0 (c.in_ok-event.ensures.same ∙ i.1))
 
 pub returns-clause-source : goal.returns-clause-source
-returns-clause-source g c = source_behind c.in_ok-event.event c.settle.result (IfErr-weaker c.settle.result (λ f. IsOfStoring f) (λ f. IsLater f) (λ f h. stores_later f h) c.settle.ensures.inside) c.in_ok-event.ensures.source
+returns-clause-source g c = source_behind _ c.settle.result (IfErr-weaker c.settle.result (λ f. IsOfStoring f) (λ f. IsLater f) (λ f h. stores_later f h) c.settle.ensures.inside) c.in_ok-event.ensures.source
 
 pub returns-clause-shelf : goal.returns-clause-shelf
-returns-clause-shelf g c = shelf_behind c.in_ok-event.event c.settle.result c.in_ok-event.ensures.shelf c.settle.ensures.counts
+returns-clause-shelf g c = shelf_behind _ c.settle.result c.in_ok-event.ensures.shelf c.settle.ensures.counts
 
 pub returns-clause-sink : goal.returns-clause-sink
-returns-clause-sink g c = sink_storing tt c.settle.result c.settle.ensures.inside c.in_ok-put.ensures.counts
+returns-clause-sink g c = sink_storing _ c.settle.result c.settle.ensures.inside c.in_ok-put.ensures.counts
 
 pub returns-clause-spares : goal.returns-clause-spares
 returns-clause-spares g c =

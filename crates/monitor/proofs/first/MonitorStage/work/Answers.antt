@@ -6,10 +6,10 @@ use Rattle.monitor.specs.Faults.{IsLater, IsOfMonitor}
 use Rattle.monitor.specs.Standing.{at_printed, at_said}
 use Rattle.monitor.proofs.Around.{Around, all_later, caused, counted, database_kept, durable_kept, never_unlawful, reads_on, spared}
 use Rattle.monitor.proofs.AtWork.{SameButOutput, due_printed, hands_reading, keeps_printing, not_ended, not_waiting, printed_partly, read_partly, work_printed, work_read}
-use Rattle.monitor.proofs.Counting.{print_unshelved, prints_here, prints_later, shelf_same, shelf_unused, shelf_err, sink_err}
+use Rattle.monitor.proofs.Counting.{print_unshelved, prints_here, prints_later, shelf_as, shelf_err, shelf_same, shelf_unused, sink_as, sink_err}
 use Rattle.monitor.proofs.Done.{spares_later}
 use Rattle.monitor.proofs.Erring.{handed_on, if_err, not_ok, on_err_any}
-use Rattle.monitor.proofs.Lined.{source_err, source_unread}
+use Rattle.monitor.proofs.Lined.{source_as, source_err, source_same, source_unread}
 use Rattle.monitor.proofs.first.MonitorStage.work.Goals as goal
 
 -- ---- it has printed
@@ -22,12 +22,12 @@ returns-in_ok-print-in-Printing g c =
     let after : Outside = outside g.B.Base.database g.B.Base.faults g.B.Base.clock g.B.Base.reads g.H.Shelf.files g.H.Shelf.faults g.S.Source.left g.S.Source.given g.S.Source.faults g.K.Sink.written g.K.Sink.faults g.K.Sink.stalls (record { base = room.base; shelf = room.shelf; source = room.source; sink = c.print.new.sink }) in
     let now : c.printed.new.self ≡ at_said c.in-Printing.begun c.in-Printing.said = c.printed.ensures ∙ ap at_printed c.in-Printing.is in
     let same : SameButOutput before after = record { database = refl; files = refl; script = refl } in
-    let a : Around s.heard s.heard before after (Ok tt) = record {
+    let a : Around {T = Unit {0}} s.heard s.heard before after (Ok tt) = record {
       database = refl;
       base = refl;
-      source = source_unread s.heard (g.S.Source.left room.source) (g.S.Source.given room.source) (g.S.Source.faults room.source) (Ok tt) tt;
+      source = source_same s.heard (g.S.Source.left room.source) (g.S.Source.given room.source) (g.S.Source.faults room.source) tt;
       shelf = shelf_same (g.H.Shelf.faults room.shelf) tt;
-      sink = c.in_ok-print-in-Printing.ensures.counts;
+      sink = sink_as _ tt c.in_ok-print-in-Printing.ensures.counts;
       spares = tt;
       inside = tt;
     } in
@@ -101,12 +101,12 @@ returns-in_ok-read-in-Reading g c =
     let after : Outside = outside g.B.Base.database g.B.Base.faults g.B.Base.clock g.B.Base.reads g.H.Shelf.files g.H.Shelf.faults g.S.Source.left g.S.Source.given g.S.Source.faults g.K.Sink.written g.K.Sink.faults g.K.Sink.stalls (record { base = c.give_turn.new.base; shelf = c.read.new.shelf; source = c.read.new.source; sink = c.read.new.sink }) in
     let done = c.in_ok-read-in-Reading.ensures in
     let turn = c.give_turn.ensures in
-    let a : Around s.heard c.read.new.heard before after (Ok tt) = record {
+    let a : Around {T = Unit {0}} s.heard c.read.new.heard before after (Ok tt) = record {
       database = turn.kept;
       base = turn.faults;
-      source = done.source;
-      shelf = done.shelf;
-      sink = done.sink;
+      source = source_as _ tt done.source;
+      shelf = shelf_as _ tt done.shelf;
+      sink = sink_as _ tt done.sink;
       spares = tt;
       inside = tt;
     } in

@@ -8,7 +8,7 @@ use Rattle.monitor.specs.Lines.{IsLine, IsOneLine}
 use Rattle.monitor.specs.Reading.{Fills, MayFill}
 use Rattle.monitor.proofs.Erring.{handed_on, if_err}
 use Rattle.monitor.proofs.Filling.{line_of_file, line_of_script, may_at_hand, may_end, may_of_file, may_of_script, no_line}
-use Rattle.monitor.proofs.Lined.{source_behind, source_err, source_unread}
+use Rattle.monitor.proofs.Lined.{source_as, source_behind, source_err, source_same, source_unread}
 use Rattle.monitor.proofs.reader.Reader.fill.Goals as goal
 
 -- ---- a part of the present line is left
@@ -19,7 +19,7 @@ returns-then-not-is_empty-clause-may g c = λ known.
     may_at_hand c.args.self.now known some
 
 pub returns-then-not-is_empty-clause-source : goal.returns-then-not-is_empty-clause-source
-returns-then-not-is_empty-clause-source g c = source_unread c.args.heard.now _ _ _ _ tt
+returns-then-not-is_empty-clause-source g c = source_same c.args.heard.now _ _ _ _
 
 -- ---- an open file has a line
 
@@ -52,7 +52,7 @@ returns-in-Some-clause-may g c = λ known.
     (may_of_file inside known c.in-Some.line.items c.next_line.new.self c.in_ok-self-inside.field-0 none next are)
 
 pub returns-in-Some-clause-source : goal.returns-in-Some-clause-source
-returns-in-Some-clause-source g c = source_unread c.args.heard.now _ _ _ _ tt
+returns-in-Some-clause-source g c = source_same c.args.heard.now _ _ _ _
 
 -- ---- the script
 
@@ -65,7 +65,7 @@ returns-in_err-line-2-clause-source g c =
 pub returns-in_err-self-inside-in-Some-2-clause-source : goal.returns-in_err-self-inside-in-Some-2-clause-source
 returns-in_err-self-inside-in-Some-2-clause-source g c =
     let r = c.from_residual-in_err-self-inside-in-Some-2.result in
-    source_behind c.in_ok-line-2.field-0 r (if_err r faults.OutOfMemory (λ f. IsLater f) (handed_on r faults.OutOfMemory c.from_residual-in_err-self-inside-in-Some-2.ensures.1) tt) c.in_ok-line-2.ensures.source
+    source_behind _ r (if_err r faults.OutOfMemory (λ f. IsLater f) (handed_on r faults.OutOfMemory c.from_residual-in_err-self-inside-in-Some-2.ensures.1) tt) c.in_ok-line-2.ensures.source
 
 pub returns-in_ok-self-inside-in-Some-2-clause-did :
     goal.returns-in_ok-self-inside-in-Some-2-clause-did
@@ -93,7 +93,7 @@ returns-in_ok-self-inside-in-Some-2-clause-may g c = λ known.
 
 pub returns-in_ok-self-inside-in-Some-2-clause-source :
     goal.returns-in_ok-self-inside-in-Some-2-clause-source
-returns-in_ok-self-inside-in-Some-2-clause-source g c = source_behind c.in_ok-line-2.field-0 _ tt c.in_ok-line-2.ensures.source
+returns-in_ok-self-inside-in-Some-2-clause-source g c = source_as _ _ c.in_ok-line-2.ensures.source
 
 pub returns-in-None-clause-did : goal.returns-in-None-clause-did
 returns-in-None-clause-did g c = λ known script there.
@@ -114,4 +114,4 @@ returns-in-None-clause-may g c = λ known.
     subst (λ (m : Monitor). MayFill m known false (record inside { files = c.next_line.new.self })) c.self.view_is (may_end inside known c.next_line.new.self none next)
 
 pub returns-in-None-clause-source : goal.returns-in-None-clause-source
-returns-in-None-clause-source g c = source_behind c.in_ok-line-2.field-0 _ tt c.in_ok-line-2.ensures.source
+returns-in-None-clause-source g c = source_as _ _ c.in_ok-line-2.ensures.source

@@ -1,9 +1,10 @@
 use Rattle.std.proofs.Common.{◌≡◌, rules, true, false}
+use Rattle.net_core.specs.declared.fault.WorkFault.TheVariants as faults
 use Rattle.monitor.specs.Faults.{IsOfReading}
 use Rattle.monitor.proofs.Counting.{line_reads, line_unshelved, shelf_failed, shelf_no_memory, shelf_ok, shelf_same, shelf_unused}
 use Rattle.monitor.proofs.Erring.{handed_on, if_err}
 use Rattle.monitor.proofs.Filling.{may_end_so, may_read_on, read_end, read_line_on}
-use Rattle.monitor.proofs.Lined.{source_behind, source_err}
+use Rattle.monitor.proofs.Lined.{source_as, source_err, source_then}
 use Rattle.monitor.proofs.reader.Reader.read_on.Goals as goal
 
 -- ---- no line was read
@@ -37,7 +38,7 @@ returns-then-not-branch-clause-may g c = λ known shelf.
     may_end_so c.args.self.now c.fill.new.self known c.in_ok-fill.field-0 c.args.out.now.items none (c.in_ok-fill.ensures.may known) c.requires
 
 pub returns-then-not-branch-clause-source : goal.returns-then-not-branch-clause-source
-returns-then-not-branch-clause-source g c = source_behind c.in_ok-fill.field-0 _ tt c.in_ok-fill.ensures.source
+returns-then-not-branch-clause-source g c = source_as _ _ c.in_ok-fill.ensures.source
 
 pub returns-then-not-branch-clause-shelf : goal.returns-then-not-branch-clause-shelf
 returns-then-not-branch-clause-shelf g c = shelf_same _ _
@@ -56,19 +57,19 @@ returns-in-Ok-clause-may g c = λ known shelf.
     may_read_on c.args.self.now c.fill.new.self c.run.new.self known c.in_ok-fill.field-0 c.args.out.now.items c.run.new.out.items c.in-Ok.event some (c.in_ok-fill.ensures.may known) c.requires (c.in-Ok.ensures.did known shelf)
 
 pub returns-in-Ok-clause-source : goal.returns-in-Ok-clause-source
-returns-in-Ok-clause-source g c = source_behind c.in_ok-fill.field-0 _ tt c.in_ok-fill.ensures.source
+returns-in-Ok-clause-source g c = source_as _ _ c.in_ok-fill.ensures.source
 
 pub returns-in-Ok-clause-shelf : goal.returns-in-Ok-clause-shelf
 returns-in-Ok-clause-shelf g c = shelf_ok _ _ c.in-Ok.ensures.cause
 
 pub returns-in-Err-Failed-clause-source : goal.returns-in-Err-Failed-clause-source
-returns-in-Err-Failed-clause-source g c = source_behind c.in_ok-fill.field-0 _ tt c.in_ok-fill.ensures.source
+returns-in-Err-Failed-clause-source g c = source_then _ faults.Shelf tt c.in_ok-fill.ensures.source
 
 pub returns-in-Err-Failed-clause-shelf : goal.returns-in-Err-Failed-clause-shelf
 returns-in-Err-Failed-clause-shelf g c = shelf_failed c.in-Err-Failed.ensures.cause
 
 pub returns-in-Err-OutOfMemory-clause-source : goal.returns-in-Err-OutOfMemory-clause-source
-returns-in-Err-OutOfMemory-clause-source g c = source_behind c.in_ok-fill.field-0 _ tt c.in_ok-fill.ensures.source
+returns-in-Err-OutOfMemory-clause-source g c = source_then _ faults.OutOfMemory tt c.in_ok-fill.ensures.source
 
 pub returns-in-Err-OutOfMemory-clause-shelf : goal.returns-in-Err-OutOfMemory-clause-shelf
 returns-in-Err-OutOfMemory-clause-shelf g c = shelf_no_memory c.in-Err-OutOfMemory.ensures.cause
