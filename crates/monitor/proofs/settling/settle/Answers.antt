@@ -1,4 +1,5 @@
-use Rattle.std.proofs.Common.{refl, sym, subst}
+use Rattle.std.proofs.Common.{refl, sym, subst, ℕ, List}
+use Rattle.fault_io.specs.Shelves.{MayHaveStored}
 use Rattle.net_core.specs.declared.fault.WorkFault.TheVariants as faults
 use Rattle.monitor.specs.declared.event.Event.{Event}
 use Rattle.monitor.specs.Faults.{IsOfStoring}
@@ -44,4 +45,6 @@ returns-in_ok-leave-in-Leaves-clause-counts g c = shelf_same _ _
 
 pub returns-in-Stores-clause-failed : goal.returns-in-Stores-clause-failed
 returns-in-Stores-clause-failed g c = λ known there.
-    on_err c.store.result (λ h. subst (λ (e : Event). MayBeStored e known c.args.text.now (g.H.Shelf.files c.store.new.shelf)) (sym c.in-Stores.is) h) (c.store.ensures.failed known there)
+    on_err c.store.result
+    (λ h. subst (λ (e : Event). MayBeStored e known c.args.text.now (g.H.Shelf.files c.store.new.shelf)) (sym c.in-Stores.is) (subst (λ (n : List ℕ). MayHaveStored n c.args.text.now known (g.H.Shelf.files c.store.new.shelf)) c.items.ensures h))
+    (c.store.ensures.failed known there)
