@@ -28,10 +28,10 @@ returns-in_err-line-clause-source g c =
     let r = c.from_residual.result in
     source_unread c.args.heard.now _ _ _ r (if_err r faults.OutOfMemory (λ f. IsLater f) (handed_on r faults.OutOfMemory c.from_residual.ensures.1) tt)
 
-pub returns-in_err-self-inside-in-Some-clause-source : goal.returns-in_err-self-inside-in-Some-clause-source
-returns-in_err-self-inside-in-Some-clause-source g c =
-    let r = c.from_residual-in_err-self-inside-in-Some.result in
-    source_unread c.args.heard.now _ _ _ r (if_err r faults.OutOfMemory (λ f. IsLater f) (handed_on r faults.OutOfMemory c.from_residual-in_err-self-inside-in-Some.ensures.1) tt)
+pub returns-in_err-self-inside-clause-source : goal.returns-in_err-self-inside-clause-source
+returns-in_err-self-inside-clause-source g c =
+    let r = c.from_residual-in_err-self-inside.result in
+    source_unread c.args.heard.now _ _ _ r (if_err r faults.OutOfMemory (λ f. IsLater f) (handed_on r faults.OutOfMemory c.from_residual-in_err-self-inside.ensures.1) tt)
 
 pub returns-in-Some-clause-did : goal.returns-in-Some-clause-did
 returns-in-Some-clause-did g c = λ known script there.
