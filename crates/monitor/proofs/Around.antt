@@ -9,7 +9,7 @@ use Rattle.net_core.specs.declared.fault.WorkFault.{WorkFault}
 use Rattle.net_core.specs.declared.fault.WorkFault.TheVariants as faults
 use Rattle.net_core.specs.Known.{KeepsDatabase, Later, Outside}
 use Rattle.net_core.specs.Reads.{ReadsOn}
-use Rattle.net_core.specs.Spares.{CountsOnly, CountsOnlyBy, Spares, SparesBy, counts}
+use Rattle.net_core.specs.Spares.{CountsOnly, CountsOnlyBy, LeavesEnds, Spares, SparesBy, counts}
 use Rattle.monitor.specs.Doing.{SparesOut}
 use Rattle.monitor.specs.Faults.{CountsShelf, CountsSink, IsOfMonitor, ShelfSays, SinkSays}
 use Rattle.monitor.specs.Lines.{SourceRead, SourceSays}
@@ -96,3 +96,9 @@ reads_on heard heard' o o' r a = record { line = a.source.line; broken = a.sourc
 -- the database is as it was, and each image that stood for one stands for it still
 pub durable_kept : (o o' : Outside) (left left' : ℕ → Option Db → Type 0) → o'.database ≡ o.database → ((db : Db) → AllDenote o.clock left db → AllDenote o'.clock left' db) → StaysDurable o o' left left'
 durable_kept o o' left left' same keeps db db' is is' stands = subst (λ (d : Db). AllDenote o'.clock left' d) (same_Some db db' (sym is ∙ sym same ∙ is')) (keeps db stands)
+
+-- ---- the place
+
+-- it is the first stage, of which nothing is said here
+pub only_first : {T : Type 0} (place heard heard' : ℕ) (o o' : Outside) (r : Result T WorkFault) → place ≡ 1 → (place ≡ 1 → ⊥) → LeavesEnds heard heard' o o' r
+only_first place heard heard' o o' r is apart = absurd (apart is)

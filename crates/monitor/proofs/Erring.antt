@@ -23,8 +23,8 @@ on_err_all (Ok x) f h = tt
 on_err_all (Err e) f h = f h
 
 -- there was no answer
-pub not_ok : {A E : Type 0} (r : Result A E) (e : E) {P : Type 0} → r ≡ Err e → OnOk r P
-not_ok {A} {E} r e {P} is = subst (λ (x : Result A E). OnOk x P) (sym is) tt
+pub not_ok : {A E : Type 0} (r : Result A E) (e : E) (P : Type 0) → r ≡ Err e → OnOk r P
+not_ok {A} {E} r e P is = subst (λ (x : Result A E). OnOk x P) (sym is) tt
 
 -- the exit of a call hands its error on
 pub handed_on : {A E : Type 0} (r : Result A E) (e : E) → IsErrAnd r (λ f. f ≡ e) → r ≡ Err e

@@ -9,7 +9,7 @@ use Rattle.monitor.proofs.Lined.{first_byte, line_as, line_begun, line_ends, lin
 use Rattle.monitor.proofs.lines.read_line.Goals as goal
 
 pub bytes-init : goal.bytes-init
-bytes-init g c = line_begun c.new.result.items c.args.heard.now (g.S.Source.left c.args.source.now) (g.S.Source.given c.args.source.now) (g.S.Source.faults c.args.source.now) c.new.ensures.items
+bytes-init g c = line_begun c.new-line.result.items c.args.heard.now (g.S.Source.left c.args.source.now) (g.S.Source.given c.args.source.now) (g.S.Source.faults c.args.source.now) c.new-line.ensures.items
 
 pub bytes-preserved : goal.bytes-preserved
 bytes-preserved g c =

@@ -15,19 +15,19 @@ returns-in-Unlawful-clause-unlawful c = λ user due e.
     let unlawful : HasCome c.args.self.now.got c.args.frame came.Unlawful = rw c.in-Unlawful.is at c.in_ok-came.ensures in
     not_lawful user c.args.self.now.reader c.args.self.now.at c.args.self.now.got c.args.self.now.out c.args.frame c.requires unlawful
 
-pub returns-then-not-is_due-in-Whole-clause-unlawful : goal.returns-then-not-is_due-in-Whole-clause-unlawful
-returns-then-not-is_due-in-Whole-clause-unlawful c = λ user due e.
+pub returns-then-not-is_due-clause-unlawful : goal.returns-then-not-is_due-clause-unlawful
+returns-then-not-is_due-clause-unlawful c = λ user due e.
     let whole : HasCome c.args.self.now.got c.args.frame (came.Whole c.in-Whole.said) = rw c.in-Whole.is at c.in_ok-came.ensures in
     let undue : comes_due c.args.self.now.at c.in-Whole.said ≡ false = search rules in
     not_due user c.args.self.now.reader c.args.self.now.at c.args.self.now.got c.args.self.now.out c.args.frame c.in-Whole.said c.requires whole undue
 
-pub returns-in-Whole-clause-taken : goal.returns-in-Whole-clause-taken
-returns-in-Whole-clause-taken c = λ user due.
+pub returns-else-not-is_due-clause-taken : goal.returns-else-not-is_due-clause-taken
+returns-else-not-is_due-clause-taken c = λ user due.
     let whole : HasCome c.args.self.now.got c.args.frame (came.Whole c.in-Whole.said) = rw c.in-Whole.is at c.in_ok-came.ensures in
     let comes : comes_due c.args.self.now.at c.in-Whole.said ≡ true = search rules in
     taken_whole user c.args.self.now.reader c.args.self.now.at c.takes.new.self c.args.self.now.got c.clear.new.self c.args.self.now.out c.args.frame c.in-Whole.said c.requires whole comes c.takes.ensures c.clear.ensures
 
-pub returns-in-Whole-clause-serves : goal.returns-in-Whole-clause-serves
-returns-in-Whole-clause-serves c = λ user due.
+pub returns-else-not-is_due-clause-serves : goal.returns-else-not-is_due-clause-serves
+returns-else-not-is_due-clause-serves c = λ user due.
     let comes : comes_due c.args.self.now.at c.in-Whole.said ≡ true = search rules in
     due_taking c.args.self.now.at c.takes.new.self c.in-Whole.said comes c.takes.ensures

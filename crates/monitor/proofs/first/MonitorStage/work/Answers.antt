@@ -4,7 +4,7 @@ use Rattle.net_core.specs.Known.{Outside, outside}
 use Rattle.monitor.specs.Doing.{SparesOut}
 use Rattle.monitor.specs.Faults.{IsLater, IsOfMonitor}
 use Rattle.monitor.specs.Standing.{at_printed, at_said}
-use Rattle.monitor.proofs.Around.{Around, all_later, caused, counted, database_kept, durable_kept, never_unlawful, reads_on, spared}
+use Rattle.monitor.proofs.Around.{Around, all_later, caused, counted, database_kept, durable_kept, never_unlawful, only_first, reads_on, spared}
 use Rattle.monitor.proofs.AtWork.{SameButOutput, due_printed, hands_reading, keeps_printing, not_ended, not_waiting, printed_partly, read_partly, work_printed, work_read}
 use Rattle.monitor.proofs.Counting.{print_unshelved, prints_here, prints_later, shelf_as, shelf_err, shelf_same, shelf_unused, sink_as, sink_err}
 use Rattle.monitor.proofs.Done.{spares_later}
@@ -42,7 +42,7 @@ returns-in_ok-print-in-Printing g c =
       spares = tt;
       reads = reads_on s.heard s.heard before after (Ok tt) a;
       within = a.source.within;
-      ends = λ apart. absurd (apart refl);
+      ends = only_first 1 s.heard s.heard before after (Ok tt) refl;
       handed = λ works had has. keeps_printing _ s.reader s.reader s.at c.printed.new.self c.in-Printing.begun c.in-Printing.said c.in-Printing.is now had has;
       crash = λ user due net knows. nothing_else _ _ _;
       durable = durable_kept before after (g.B.Base.left_since room.base) (g.B.Base.left_since room.base) refl (λ db stands. stands);
@@ -72,20 +72,20 @@ returns-in_err-print-in-Printing g c =
       inside = if_err r f (λ x. IsOfMonitor x) is (prints_here f of);
     } in
     record {
-      works = λ user due. not_ok r f is;
+      works = λ user due. not_ok r f _ is;
       failed = λ user due. on_err_any r (printed_partly user s.reader s.at c.in-Printing.begun c.in-Printing.said before after c.in-Printing.is same c.in_err-print-in-Printing.ensures.front);
       unlawful = λ user due e. never_unlawful s.heard s.heard before after r a e;
-      database = not_ok r f is;
+      database = not_ok r f _ is;
       later = all_later s.heard s.heard before after r a;
       cause = caused s.heard s.heard before after r a;
       counts = counted s.heard s.heard before after r a;
       spares = spared s.heard s.heard before after r a;
       reads = reads_on s.heard s.heard before after r a;
       within = a.source.within;
-      ends = λ apart. absurd (apart refl);
-      handed = not_ok r f is;
+      ends = only_first 1 s.heard s.heard before after r refl;
+      handed = not_ok r f _ is;
       crash = λ user due net knows. nothing_else _ _ _;
-      durable = not_ok r f is;
+      durable = not_ok r f _ is;
       quiet = λ k without. (refl, refl);
       serves = λ user due. due;
       place = refl;
@@ -121,7 +121,7 @@ returns-in_ok-read-in-Reading g c =
       spares = tt;
       reads = reads_on s.heard c.read.new.heard before after (Ok tt) a;
       within = a.source.within;
-      ends = λ apart. absurd (apart refl);
+      ends = only_first 1 s.heard c.read.new.heard before after (Ok tt) refl;
       handed = λ works had has. hands_reading c.read.new.reader c.read.new.at done.did.event (g.B.Base.schema c.give_turn.new.base) (g.B.Base.database c.give_turn.new.base) done.did.stands turn.forgotten has;
       crash = λ user due net knows. asked_leaves _ _ _ _ _ turn.crash;
       durable = durable_kept before after (g.B.Base.left_since room.base) (g.B.Base.left_since c.give_turn.new.base) turn.kept turn.durable;
@@ -150,20 +150,20 @@ returns-in_err-read-in-Reading g c =
       inside = if_err r f (λ x. IsOfMonitor x) is done.inside;
     } in
     record {
-      works = λ user due. not_ok r f is;
+      works = λ user due. not_ok r f _ is;
       failed = λ user due. on_err_any r (read_partly user s.reader s.at before after c.in-Reading.is refl done.part);
       unlawful = λ user due e. never_unlawful s.heard c.read.new.heard before after r a e;
-      database = not_ok r f is;
+      database = not_ok r f _ is;
       later = all_later s.heard c.read.new.heard before after r a;
       cause = caused s.heard c.read.new.heard before after r a;
       counts = counted s.heard c.read.new.heard before after r a;
       spares = spared s.heard c.read.new.heard before after r a;
       reads = reads_on s.heard c.read.new.heard before after r a;
       within = a.source.within;
-      ends = λ apart. absurd (apart refl);
-      handed = not_ok r f is;
+      ends = only_first 1 s.heard c.read.new.heard before after r refl;
+      handed = not_ok r f _ is;
       crash = λ user due net knows. nothing_else _ _ _;
-      durable = not_ok r f is;
+      durable = not_ok r f _ is;
       quiet = λ k without. (refl, refl);
       serves = λ user due. done.due;
       place = refl;
@@ -174,5 +174,5 @@ returns-in_err-read-in-Reading g c =
 pub unreachable-requires : goal.unreachable-requires
 unreachable-requires g c = not_waiting c.args.self.now.reader c.args.self.now.at _ c.args.self.now.got c.args.self.now.out c.in-Waiting.is c.requires
 
-pub unreachable-requires-2 : goal.unreachable-requires-2
-unreachable-requires-2 g c = not_ended c.args.self.now.reader c.args.self.now.at c.args.self.now.got c.args.self.now.out c.in-Ended.is c.requires
+pub unreachable-requires-in-Ended : goal.unreachable-requires-in-Ended
+unreachable-requires-in-Ended g c = not_ended c.args.self.now.reader c.args.self.now.at c.args.self.now.got c.args.self.now.out c.in-Ended.is c.requires

@@ -66,10 +66,10 @@ pub returns-in-Err-Failed-clause-source : goal.returns-in-Err-Failed-clause-sour
 returns-in-Err-Failed-clause-source g c = source_then _ faults.Shelf tt c.in_ok-fill.ensures.source
 
 pub returns-in-Err-Failed-clause-shelf : goal.returns-in-Err-Failed-clause-shelf
-returns-in-Err-Failed-clause-shelf g c = shelf_failed c.in-Err-Failed.ensures.cause
+returns-in-Err-Failed-clause-shelf g c = shelf_failed (rw c.in-Err-Failed.field-0-is at c.in-Err-Failed.ensures.cause)
 
 pub returns-in-Err-OutOfMemory-clause-source : goal.returns-in-Err-OutOfMemory-clause-source
 returns-in-Err-OutOfMemory-clause-source g c = source_then _ faults.OutOfMemory tt c.in_ok-fill.ensures.source
 
 pub returns-in-Err-OutOfMemory-clause-shelf : goal.returns-in-Err-OutOfMemory-clause-shelf
-returns-in-Err-OutOfMemory-clause-shelf g c = shelf_no_memory c.in-Err-OutOfMemory.ensures.cause
+returns-in-Err-OutOfMemory-clause-shelf g c = shelf_no_memory (rw c.in-Err-OutOfMemory.field-0-is at c.in-Err-OutOfMemory.ensures.cause)
