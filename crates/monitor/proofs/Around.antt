@@ -1,5 +1,5 @@
 -- What the parts of the outside say, as what a stage owes of all of it.
-use Rattle.std.proofs.Common.{◌≡◌, sym, subst, ◌∙◌, ℕ, Option, Some, Result, Ok, Err, IfErr, IsErrOf, arith}
+use Rattle.std.proofs.Common.{◌≡◌, sym, subst, ◌∙◌, ℕ, Option, Result, Ok, Err, IfErr, IsErrOf, arith}
 use Rattle.std.proofs.lemmas.Option.{same_Some}
 use Rattle.base_trait.specs.Crashes.{AllDenote}
 use Rattle.calculus.specs.Database.{Db}

@@ -1,7 +1,6 @@
 -- Of which parts a fault is, and what it says of their counts.
 use Rattle.std.proofs.Common.{◌≡◌, refl, sym, subst, ℕ, Result, Ok, Err, IfErr, arith}
 use Rattle.fault_io.specs.Shelves.{HasShelfCause}
-use Rattle.fault_io.specs.declared.shelf.ShelfFault.{ShelfFault}
 use Rattle.fault_io.specs.declared.shelf.ShelfFault.TheVariants as shelf_faults
 use Rattle.net_core.specs.declared.fault.WorkFault.{WorkFault}
 use Rattle.net_core.specs.declared.fault.WorkFault.TheVariants as faults

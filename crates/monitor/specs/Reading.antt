@@ -1,5 +1,5 @@
 -- What the first stage reads.
-use Rattle.std.specs.Prelude.{◌≡◌, ℕ, ◌+◌, nat_le, nat_lt, ◌&&◌, Bool, true, false, List, [], ◌∷◌, length, Some, None}
+use Rattle.std.specs.Prelude.{◌≡◌, ℕ, ◌+◌, nat_le, nat_lt, ◌&&◌, Bool, true, false, List, [], ◌∷◌, Some, None}
 use Rattle.std.specs.declared.option.Option.{Option}
 use Rattle.fault_io.specs.Files.{Files, stored}
 use Rattle.network_meaning.specs.Sorts.{Event.goes_on, Event.sends, Event.leaves, Read}

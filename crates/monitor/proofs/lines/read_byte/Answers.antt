@@ -1,5 +1,4 @@
-use Rattle.std.proofs.Common.{◌≡◌, ◌+◌, ◌-◌, ◌^◌, min, refl, ℕ, List, None, Some}
-use Rattle.monitor.specs.Lines.{IsByte}
+use Rattle.std.proofs.Common.{◌≡◌, ◌+◌, ◌-◌, ◌^◌, min, refl}
 use Rattle.monitor.proofs.Lined.{byte_failed, byte_none, byte_over, byte_some, too_long_before}
 use Rattle.monitor.proofs.lines.read_byte.Goals as goal
 

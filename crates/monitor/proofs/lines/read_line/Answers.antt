@@ -1,4 +1,4 @@
-use Rattle.std.proofs.Common.{◌≡◌, ◌+◌, subst, rules, ℕ, List, None, true, false, length}
+use Rattle.std.proofs.Common.{◌≡◌, ◌+◌, subst, rules, ℕ, None, false, length}
 use Rattle.std.specs.Prelude.{◌==◌}
 use Rattle.std.specs.declared.option.Option.{Option}
 use Rattle.net_core.specs.declared.fault.WorkFault.TheVariants as faults

@@ -1,4 +1,4 @@
-use Rattle.std.proofs.Common.{◌≡◌, ap, List}
+use Rattle.std.proofs.Common.{ap, List}
 use Rattle.std.proofs.lemmas.Result.{IfOk-weaker}
 use Rattle.frame_codec.specs.declared.frame.Frame.{Frame}
 use Rattle.monitor.specs.Standing.{standing}
