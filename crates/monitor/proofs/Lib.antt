@@ -2,3 +2,14 @@ pub mod Found
 pub mod Stripped
 pub mod Worded
 pub mod Walked
+pub mod Erring
+pub mod Files
+pub mod Parting
+pub mod Counting
+pub mod Lined
+pub mod Filling
+pub mod Done
+pub mod Sent
+pub mod Arriving
+pub mod AtWork
+pub mod Around

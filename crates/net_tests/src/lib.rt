@@ -12,6 +12,8 @@ mod links;
 #[cfg(test)]
 mod messages;
 #[cfg(test)]
+mod monitoring;
+#[cfg(test)]
 mod orders;
 mod players;
 #[cfg(test)]
