@@ -97,7 +97,7 @@ heads_have (t ∷ ts) [] e h = absurd (cc e)
 heads_have (t ∷ ts) (a ∷ asked) e h =
     let one : t.columns ≡ head_of a = cc e in
     let later : map (λ t. t.columns) ts ≡ map head_of asked = cc e in
-    (subst (λ cs. columns_codec.Fits cs) (sym one) h.0, heads_have ts asked later h.1)
+    (subst columns_codec.Fits (sym one) h.0, heads_have ts asked later h.1)
 
 -- ---- queries
 

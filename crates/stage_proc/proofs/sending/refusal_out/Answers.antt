@@ -1,6 +1,6 @@
-use Rattle.std.proofs.Common.{◌≡◌, ◌++◌, ◌∙◌, sym, ap, true, false, List}
+use Rattle.std.proofs.Common.{◌≡◌, ◌++◌, ◌∙◌, refl, sym, ap, subst, true, false, List, ℕ}
 use Rattle.frame_codec.specs.declared.frame.Frame.{Frame}
-use Rattle.frame_codec.specs.Messages.{message_frames}
+use Rattle.frame_codec.specs.Messages.{is_message_kind, message_frames}
 use Rattle.stage_proc.proofs.Framed.{refusal_put}
 use Rattle.stage_proc.proofs.sending.refusal_out.Goals as goal
 
@@ -11,3 +11,6 @@ returns-in-Some c =
 
 pub prove-unreachable-requires : goal.prove-unreachable-requires
 prove-unreachable-requires c = let no : true ≡ false = sym c.requires ∙ c.in-None.ensures.none in cc no
+
+pub put-requires : goal.put-requires
+put-requires c = subst (λ (k : ℕ). is_message_kind k ≡ true) (sym c.in-Some.ensures.kind) refl

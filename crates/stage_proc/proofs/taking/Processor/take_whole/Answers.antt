@@ -14,3 +14,9 @@ leave-requires-clause-came c = subst (λ (m : StageMessage). HasCome c.args.self
 pub returns-in_default-clause-unlawful : goal.returns-in_default-clause-unlawful
 returns-in_default-clause-unlawful c = λ user wrong.
     no_message user c.args.self.now.at c.args.self.now.got c.args.self.now.left c.args.self.now.right c.args.frame c.args.message c.requires.waits c.requires.came c.in_default.not-Tree c.in_default.not-Quit
+
+pub returns-in-Tree-clause-unlawful : goal.returns-in-Tree-clause-unlawful
+returns-in-Tree-clause-unlawful c = λ user wrong. absurd (c.hold.ensures.lawful wrong)
+
+pub returns-in-Quit-clause-unlawful : goal.returns-in-Quit-clause-unlawful
+returns-in-Quit-clause-unlawful c = λ user wrong. absurd (c.leave.ensures.lawful wrong)
