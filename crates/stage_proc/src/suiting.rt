@@ -1,6 +1,7 @@
 //! Whether the rows of tables may stand behind their heads.
 
 ghost use Rattle.std.specs.Prelude.{◌≡◌, ◌&&◌};
+ghost use Rattle.std.specs.List.{list_all};
 ghost use Rattle.calculus.specs.IsDatabase.{value_fits};
 ghost use Rattle.calculus.specs.Number.{has_64_bits};
 ghost use Rattle.calculus.specs.Text.{is_text};
@@ -9,7 +10,7 @@ ghost use Rattle.calculus.specs.declared.value.Kind.TheVariants.{Of, Wide};
 ghost use Rattle.calculus.specs.declared.value.Value.TheVariants.{Text as Written};
 ghost use Rattle.stage_proc.specs.Sending.{row_stands, table_stands, tables_stand, value_stands};
 
-use calculus::{Column, Domain, Kind, Table, Text, Value};
+use calculus::{Column, Domain, Kind, Row, Table, Text, Value};
 
 /// Whether the number has 64 bits, as each has here.
 fn has_64_bits(number: &i64) -> bool
@@ -63,7 +64,7 @@ fn value_stands(value: &Value, kind: Kind) -> bool
 }
 
 /// Whether there is a value of its kind for each column.
-fn row_stands(columns: &[Column], values: &[Value]) -> bool
+fn values_stand(columns: &[Column], values: &[Value]) -> bool
     ensures { result ≡ row_stands columns.now values.now }
 {
     let Some((column, other_columns)) = columns.split_first() else {
@@ -72,22 +73,31 @@ fn row_stands(columns: &[Column], values: &[Value]) -> bool
     let Some((value, other_values)) = values.split_first() else {
         return false;
     };
-    value_stands(value, column.kind) && row_stands(other_columns, other_values)
+    value_stands(value, column.kind) && values_stand(other_columns, other_values)
 }
 
-/// Whether each row of the table has values of its columns' kinds.
+/// Whether the row has a value of its kind for each column.
+fn row_stands(columns: &[Column], row: &Row) -> bool
+    ensures { result ≡ row_stands columns.now row.now }
+{
+    values_stand(columns, row.values())
+}
+
+/// Whether each of these rows has.
+fn rows_stand(columns: &[Column], rows: &[Row]) -> bool
+    ensures { result ≡ list_all (row_stands columns.now) rows.now }
+{
+    rows.iter().all(|row| row_stands(columns, row))
+}
+
+/// Whether each row of the table has.
 fn table_stands(table: &Table) -> bool
     ensures { result ≡ table_stands table.now }
 {
-    let columns = table.columns.items();
-    table
-        .rows
-        .items()
-        .iter()
-        .all(|row| row_stands(columns, row.values()))
+    rows_stand(table.columns.items(), table.rows.items())
 }
 
-/// Whether each row of these tables has values of its columns' kinds.
+/// Whether each row of these tables has.
 pub(crate) fn tables_stand(tables: &[Table]) -> bool
     ensures { result ≡ tables_stand tables.now }
 {
