@@ -1,0 +1,4 @@
+pub mod ByKind
+pub mod Come
+pub mod Queue
+pub mod ReadAgain
