@@ -21,10 +21,14 @@ impl Drop for HeldTree {
 }
 
 impl Model for HeldTree {
+    ghost use Rattle.calculus.specs.contracts.request.Checked as checked;
     ghost use Rattle.calculus.specs.declared.request.Checked.{Checked as Seen};
     ghost use Rattle.stage_proc.specs.Held.{IsTreeOf};
+    ghost use Rattle.std.specs.Coded.{codes};
 
     ghost Value = { Seen };
+
+    ghost coded = { Prim.hlevel (codes, checked.the_row.coded) };
 
     ghost view = { λ h. h.tree };
 
