@@ -16,5 +16,5 @@ returns-in-Err-clause-judged g c = λ wrong. no_base_unlawful c.in-Err.fault (sy
 pub returns-in-Err-clause-cause : goal.returns-in-Err-clause-cause
 returns-in-Err-clause-cause g c = record {
   later = c.in-Err.ensures.cause.later;
-  caused = subst (λ (f : WorkFault). MayComeHere (g.B.Base.database c.args.base.now) _ _ f) (sym c.of_base.ensures) (base_cause (g.B.Base.database c.args.base.now) _ _ c.in-Err.fault c.in-Err.ensures.cause.caused);
+  caused = subst (λ (f : WorkFault). MayComeHere (g.B.Base.database c.args.base.now) (g.B.Base.faults c.args.base.now) (g.B.Base.faults c.fit_tree.new.base) f) (sym c.of_base.ensures) (base_cause (g.B.Base.database c.args.base.now) (g.B.Base.faults c.args.base.now) (g.B.Base.faults c.fit_tree.new.base) c.in-Err.fault c.in-Err.ensures.cause.caused);
 }

@@ -6,5 +6,5 @@ use Rattle.stage_proc.proofs.processing.refuse.Goals as goal
 pub refusal_out-requires : goal.refusal_out-requires
 refusal_out-requires c = subst IsRefusing c.in-No.is c.requires
 
-pub returns-in-No-Ok-clause-refused : goal.returns-in-No-Ok-clause-refused
-returns-in-No-Ok-clause-refused c = (c.in-No.number, c.in-No.is, ap Shows c.in-No-Ok.ensures)
+pub returns-in-Ok-clause-refused : goal.returns-in-Ok-clause-refused
+returns-in-Ok-clause-refused c = (c.in-No.number, c.in-No.is, ap Shows c.in-Ok.ensures)

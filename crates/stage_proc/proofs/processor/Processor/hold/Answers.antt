@@ -3,7 +3,7 @@ use Rattle.network_meaning.specs.Frames.{payloads}
 use Rattle.stage_proc.specs.declared.at.At.TheVariants as at
 use Rattle.stage_proc.proofs.Holding.{held_by}
 use Rattle.stage_proc.proofs.Taken.{took_tree}
-use Rattle.stage_proc.proofs.taking.Processor.hold.Goals as goal
+use Rattle.stage_proc.proofs.processor.Processor.hold.Goals as goal
 
 pub of-requires : goal.of-requires
 of-requires c = held_by c.args.tree c.args.frame.kind (payloads c.args.self.now.got ++ c.args.frame.payload) c.in-Ok.bytes c.requires.came.2 c.in-Ok.ensures.bytes

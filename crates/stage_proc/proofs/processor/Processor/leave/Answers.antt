@@ -1,7 +1,7 @@
 use Rattle.std.proofs.Common.{refl}
 use Rattle.network_meaning.specs.Sorts.{Message.quit}
 use Rattle.stage_proc.proofs.Taken.{took_quit}
-use Rattle.stage_proc.proofs.taking.Processor.leave.Goals as goal
+use Rattle.stage_proc.proofs.processor.Processor.leave.Goals as goal
 
 pub pass_on-requires : goal.pass_on-requires
 pass_on-requires c = (quit, c.requires.came.2)

@@ -2,7 +2,7 @@ use Rattle.std.proofs.Common.{◌≡◌, true, false, refl, rules}
 use Rattle.message_codec.specs.Messages.{message}
 use Rattle.stage_proc.specs.Taking.{is_reply}
 use Rattle.stage_proc.proofs.Taken.{no_reply, took_reply}
-use Rattle.stage_proc.proofs.taking.Processor.pass_reply.Goals as goal
+use Rattle.stage_proc.proofs.processor.Processor.pass_reply.Goals as goal
 
 pub pass_on-requires : goal.pass_on-requires
 pass_on-requires c = (message c.args.message, c.requires.came.2)

@@ -1,5 +1,5 @@
 use Rattle.stage_proc.proofs.Taken.{no_part, no_right_frame}
-use Rattle.stage_proc.proofs.taking.Processor.take_reply.Goals as goal
+use Rattle.stage_proc.proofs.processor.Processor.take_reply.Goals as goal
 
 pub returns-in-Part-clause-unlawful : goal.returns-in-Part-clause-unlawful
 returns-in-Part-clause-unlawful c = λ user wrong.

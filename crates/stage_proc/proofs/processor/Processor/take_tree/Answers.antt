@@ -1,5 +1,5 @@
 use Rattle.stage_proc.proofs.Taken.{no_frame, took_part}
-use Rattle.stage_proc.proofs.taking.Processor.take_tree.Goals as goal
+use Rattle.stage_proc.proofs.processor.Processor.take_tree.Goals as goal
 
 pub returns-in-Part-clause-taken : goal.returns-in-Part-clause-taken
 returns-in-Part-clause-taken c = λ user.

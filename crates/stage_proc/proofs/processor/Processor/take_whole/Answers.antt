@@ -3,7 +3,7 @@ use Rattle.message_codec.specs.Coming.{HasCome}
 use Rattle.message_codec.specs.declared.gathered.Came.TheVariants as came
 use Rattle.message_codec.specs.declared.messages.StageMessage.{StageMessage}
 use Rattle.stage_proc.proofs.Taken.{no_message}
-use Rattle.stage_proc.proofs.taking.Processor.take_whole.Goals as goal
+use Rattle.stage_proc.proofs.processor.Processor.take_whole.Goals as goal
 
 pub hold-requires-clause-came : goal.hold-requires-clause-came
 hold-requires-clause-came c = subst (λ (m : StageMessage). HasCome c.args.self.now.got c.args.frame (came.Whole m)) c.in-Tree.is c.requires.came

@@ -4,7 +4,7 @@ use Rattle.stage_proc.specs.Worked.{HasWorked}
 use Rattle.stage_proc.proofs.AtWork.{found_unfit, has_worked, is_at_work, memory_cause, memory_lawful}
 use Rattle.stage_proc.proofs.Made.{same_fault}
 use Rattle.stage_proc.proofs.Results.{on_ok, on_ok_so}
-use Rattle.stage_proc.proofs.working.Processor.work_on.Goals as goal
+use Rattle.stage_proc.proofs.processor.Processor.work_on.Goals as goal
 
 pub tree-requires : goal.tree-requires
 tree-requires g c = (is_at_work c.args.self.now.at c.args.self.now.got c.args.self.now.left c.args.self.now.right c.requires).working
