@@ -6,7 +6,7 @@ use Rattle.stage_proc.proofs.Taken.{took_tree}
 use Rattle.stage_proc.proofs.processor.Processor.hold.Goals as goal
 
 pub of-requires : goal.of-requires
-of-requires c = held_by c.args.tree c.args.frame.kind (payloads c.args.self.now.got ++ c.args.frame.payload) c.in-Ok.bytes c.requires.came.2 c.in-Ok.ensures.bytes
+of-requires c = held_by c.args.tree c.args.frame.kind (payloads c.args.self.now.got ++ c.args.frame.payload) c.in-Ok.message.bytes c.requires.came.2 c.in-Ok.ensures.bytes
 
 pub returns-in-Ok-clause-taken : goal.returns-in-Ok-clause-taken
 returns-in-Ok-clause-taken c = λ user.

@@ -18,6 +18,6 @@ into_bytes-requires c = subst IsWorking (sym c.replace-here.ensures.value) c.req
 
 pub returns-in-HandsOn-clause-settled : goal.returns-in-HandsOn-clause-settled
 returns-in-HandsOn-clause-settled c =
-    let new = c.hand_on-2.new.self in
-    settled_tree c.hand_on-2.result c.args.self.now.at c.args.self.now.left c.args.self.now.right c.into_bytes.result c.args.made new.at new.left new.right c.in-HandsOn.is
-    (bytes_there c.args.self.now.at c.replace-here.result c.into_bytes.result c.replace-here.ensures.value c.into_bytes.ensures) c.hand_on-2.ensures.at c.hand_on-2.ensures.left c.hand_on-2.ensures.right
+    let new = c.hand_on-in-HandsOn.new.self in
+    settled_tree c.hand_on-in-HandsOn.result c.args.self.now.at c.args.self.now.left c.args.self.now.right c.into_bytes.result c.args.made new.at new.left new.right c.in-HandsOn.is
+    (bytes_there c.args.self.now.at c.replace-here.result c.into_bytes.result c.replace-here.ensures.value c.into_bytes.ensures) c.hand_on-in-HandsOn.ensures.at c.hand_on-in-HandsOn.ensures.left c.hand_on-in-HandsOn.ensures.right

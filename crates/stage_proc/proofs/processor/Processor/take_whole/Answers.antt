@@ -11,8 +11,8 @@ hold-requires-clause-came c = subst (λ (m : StageMessage). HasCome c.args.self.
 pub leave-requires-clause-came : goal.leave-requires-clause-came
 leave-requires-clause-came c = subst (λ (m : StageMessage). HasCome c.args.self.now.got c.args.frame (came.Whole m)) c.in-Quit.is c.requires.came
 
-pub returns-in_default-clause-unlawful : goal.returns-in_default-clause-unlawful
-returns-in_default-clause-unlawful c = λ user wrong.
+pub returns-clause-unlawful : goal.returns-clause-unlawful
+returns-clause-unlawful c = λ user wrong.
     no_message user c.args.self.now.at c.args.self.now.got c.args.self.now.left c.args.self.now.right c.args.frame c.args.message c.requires.waits c.requires.came c.in_default.not-Tree c.in_default.not-Quit
 
 pub returns-in-Tree-clause-unlawful : goal.returns-in-Tree-clause-unlawful
