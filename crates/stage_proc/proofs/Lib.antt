@@ -12,3 +12,14 @@ pub mod Settled
 pub mod Ordered
 pub mod Keys
 pub mod Tabling
+pub mod Holding
+pub mod Taken
+pub mod Giving
+pub mod Sendable
+pub mod Framed
+pub mod Outcomes
+pub mod Planned
+pub mod Made
+pub mod AtWork
+pub mod Settling
+pub mod Outside

@@ -2,3 +2,11 @@ pub mod Given
 pub mod Walk
 pub mod Causes
 pub mod TableCauses
+pub mod Held
+pub mod Standing
+pub mod Taking
+pub mod Sending
+pub mod Stopping
+pub mod Plans
+pub mod Comes
+pub mod Worked
