@@ -274,8 +274,8 @@ pub has_worked : (user : User) (name : List ℕ) (here : At) (t : Checked) (got 
 has_worked user name here t got got' left right here' left' right' made_of known w is en spelled database c same settled =
     let n = is_at_work here got left right w in
     let done : HasWorked user (standing (at.Working t) got [] []) (standing here' got left' right') known =
-        by_tree user t known got left right here' left' right' made_of (λ db e. fit_tree_for user t db name en (c.fit db e) spelled (database db e)) database n.none_left n.none_right c.how
-            (subst (λ (x : At). HasSettled x left right made_of here' left' right') is settled) in
+    by_tree user t known got left right here' left' right' made_of (λ db e. fit_tree_for user t db name en (c.fit db e) spelled (database db e)) database n.none_left n.none_right c.how
+    (subst (λ (x : At). HasSettled x left right made_of here' left' right') is settled) in
     subst (λ (fs : List Frame). HasWorked user (standing here got left right) (standing here' fs left' right') known) (sym same)
     (subst (λ (x : At). HasWorked user (standing x got left right) (standing here' got left' right') known) (sym is)
     (subst (λ (fs : List Frame). HasWorked user (standing (at.Working t) got fs right) (standing here' got left' right') known) (sym n.none_left)

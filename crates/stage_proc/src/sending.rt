@@ -25,11 +25,7 @@ const HEAD: u8 = 3;
 const ROW: u8 = 4;
 
 /// Puts a head behind these frames.
-fn put_head(
-    alloc: Global,
-    out: &mut Outgoing,
-    columns: &List<Column>,
-) -> Result<(), OutOfMemory>
+fn put_head(alloc: Global, out: &mut Outgoing, columns: &List<Column>) -> Result<(), OutOfMemory>
     requires { columns_codec.Fits columns.now }
     ensures { OnOk result (out.new ≡ out.old ++ message_frames 3 (columns_codec.write columns.now)) }
 {

@@ -74,11 +74,7 @@ impl Processor {
 
     /// Works on the tree: what it comes to is to be given then, and the base is handed over. The base is
     /// asked and not changed.
-    pub(crate) fn work_on<B: Base>(
-        &mut self,
-        alloc: Global,
-        base: &mut B,
-    ) -> Result<(), WorkFault>
+    pub(crate) fn work_on<B: Base>(&mut self, alloc: Global, base: &mut B) -> Result<(), WorkFault>
         requires { want (standing self.old.at self.old.got self.old.left self.old.right) ≡ work }
         ensures works { (user : User) → user.asker.user ≡ self.old.user → OnOk result (HasWorked user (standing self.old.at self.old.got self.old.left self.old.right) (standing self.new.at self.new.got self.new.left self.new.right) (B.database base.old)) }
         ensures unlawful { (user : User) → user.asker.user ≡ self.old.user → IsErrOf result WorkFault.Unlawful → MayNotBeWorkedOn user (standing self.old.at self.old.got self.old.left self.old.right) (B.database base.old) }
