@@ -1,17 +1,24 @@
 -- Sources, sinks, shelves, links and spawners in memory, as contracts see them.
-use Rattle.std.specs.Prelude.{◌≡◌, ℕ, ℤ, ◌-◌, List, [], ◌∷◌, min}
+use Rattle.std.specs.Prelude.{◌≡◌, ℕ, ℤ, ◌-◌, Bool, true, false, List, [], ◌∷◌, min}
 use Rattle.std.specs.declared.option.Option.{Option}
 use Rattle.std.specs.declared.option.Option.TheVariants.{Some, None}
 use Rattle.std.specs.Global.{Vec}
+use Rattle.fault_io.specs.Causes.{one_more}
 use Rattle.fault_io.specs.Files.{File, Files, stored}
 
--- A source: the bytes that are left, how many it has given, the number of the next call, the numbers of the calls that are to fail, and how often a call has failed.
+-- A source: the bytes that are left, how many it has given, the number of the next call, the numbers of the calls that are to fail, how often a call has failed, and whether it has answered that it has ended.
 pub record SourceInMemory : Type 0 where
   pub bytes : List ℕ
   pub given : ℕ
   pub next_call : ℕ
   pub failing : List ℕ
   pub faults : ℕ
+  pub ended : Bool
+
+-- The number of the next call of a source: a call of one that has ended isn't counted.
+abbrev pub called_next : Bool → ℕ → ℕ
+called_next true next = next
+called_next false next = one_more next
 
 -- A sink: the bytes that it took, how many more it takes (none: there is no bound), the number of the next call, the numbers of the calls that are to fail, and how often a call has failed.
 pub record SinkInMemory : Type 0 where

@@ -8,7 +8,7 @@ use crate::traits::Failed;
 pub(crate) struct Calls {
     next: u64,
     failing: Vec<u64>,
-    faults: u64,
+    pub(crate) faults: u64,
 }
 
 impl Drop for Calls {

@@ -1,19 +1,21 @@
-ghost use Rattle.std.specs.Prelude.{◌≡◌, ◌↔◌, ◌++◌, ◌<◌, ◌+◌, [], Contains, IfOk, IsErr, OnErr, Some, drop, length, min, take};
+ghost use Rattle.std.specs.Prelude.{◌≡◌, ◌↔◌, ◌++◌, ◌<◌, ◌+◌, ◌⊎◌, [], false, Contains, IfOk, IsErr, IsTrue, OnErr, Some, drop, length, min, take};
 ghost use Rattle.std.specs.Io.{ReadsAtMost};
 ghost use Rattle.std.specs.Io.KnownBytes.{ReadConsumes};
-ghost use Rattle.fault_io.specs.Causes.{CountsGiven, HasCause, one_more};
+ghost use Rattle.fault_io.specs.Causes.{CountsGiven, HasCause, RemembersEnd, one_more};
+ghost use Rattle.fault_io.specs.InMemory.{called_next};
 
 use crate::calls::Calls;
 use crate::traits::{Failed, Source};
 use std::marker::Model;
 
 /// A source in memory. Contracts see the bytes that are left, how many it has given, the number of
-/// the next call, the numbers of the calls that are to fail, and the count of faults. Calls are numbered from 0; that
-/// number and the count of faults stand still at 2^64 - 1.
+/// the next call, the numbers of the calls that are to fail, the count of faults, and whether it has answered that
+/// it has ended. Calls are numbered from 0; that number and the count of faults stand still at 2^64 - 1.
 pub struct MemSource {
     bytes: Vec<u8>,
     at: usize,
     calls: Calls,
+    ended: bool,
 }
 
 impl Drop for MemSource {
@@ -22,6 +24,7 @@ impl Drop for MemSource {
             bytes: _,
             at: _,
             calls: _,
+            ended: _,
         } = self;
     }
 }
@@ -38,6 +41,7 @@ impl Model for MemSource {
       next_call = s.calls.next;
       failing = s.calls.failing.items;
       faults = s.calls.faults;
+      ended = s.ended;
     } };
 
     ghost invariant = { λ s. s.at ≤ vec_len s.bytes };
@@ -52,12 +56,14 @@ impl MemSource {
           next_call = 0;
           failing = failing.items;
           faults = 0;
+          ended = false;
         } }
     {
         MemSource {
             bytes,
             at: 0,
             calls: Calls::new(failing),
+            ended: false,
         }
     }
 }
@@ -81,16 +87,19 @@ impl Source for MemSource {
 
     ghost faults = { λ s. s.faults };
 
+    ghost ended = { λ s. s.ended };
+
     /// Gives the next bytes, as many as are left and fit into the buffer. Takes no memory.
     fn read(&mut self, buf: &mut [u8]) -> Result<usize, Failed>
         // As every source.
         ensures bound { ReadsAtMost result buf.new }
         ensures bytes { ReadConsumes (Some self.old.bytes) (Some self.new.bytes) result buf.new }
         ensures given { CountsGiven self.old.given self.new.given result }
+        ensures end { RemembersEnd self.old.ended self.new.ended (length buf.old) result }
         ensures cause { HasCause self.old.faults self.new.faults result }
 
-        // The listed calls fail, and no other.
-        ensures fails { IsErr result ↔ Contains self.old.failing self.old.next_call }
+        // The listed calls fail, and no other; none where it has ended.
+        ensures fails { IsErr result ↔ ((self.old.ended ≡ false) × Contains self.old.failing self.old.next_call) }
         ensures after_failure { OnErr result (self.new ≡ record self.old {
           next_call = one_more self.old.next_call;
           faults = one_more self.old.faults;
@@ -103,12 +112,24 @@ impl Source for MemSource {
         ensures rest { IfOk result (λ n. self.new ≡ record self.old {
           bytes = drop n self.old.bytes;
           given = self.old.given + n;
-          next_call = one_more self.old.next_call;
+          next_call = called_next self.old.ended self.old.next_call;
+          ended = self.new.ended;
         }) }
+        ensures ended { IfOk result (λ n. IsTrue self.new.ended ↔ (IsTrue self.old.ended ⊎ ((n ≡ 0) × (0 < length buf.old)))) }
     {
-        self.calls.begin()?;
+        if !self.ended {
+            self.calls.begin()?;
+        }
         let count = give(self.bytes.split_at(self.at).1, buf);
         self.at += count;
+        self.ended = self.ended || (count == 0 && !buf.is_empty());
         Ok(count)
+    }
+
+    /// How many calls have failed. Takes no memory.
+    fn fault_count(&self) -> u64
+        ensures { result ≡ self.now.faults }
+    {
+        self.calls.faults
     }
 }
