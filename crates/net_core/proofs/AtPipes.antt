@@ -21,7 +21,7 @@ use Rattle.network_meaning.specs.Network.{LocalState, StepsBy, is_blocked, is_em
 use Rattle.network_meaning.specs.WorkShape.{WorksInShape}
 use Rattle.quel_network.specs.Quel.{quel}
 use Rattle.quel_network.specs.Sorts.{User, quel_sorts}
-use Rattle.net_core.proofs.Faulty.{later_same, reads_same, within_apart}
+use Rattle.net_core.proofs.Faulty.{later_same, no_source, reads_same, within_apart}
 
 -- ---- results
 
@@ -87,7 +87,7 @@ alone l r old new o h h' p p' serves serves' result blocked steps unlawful cause
   later = later_same o;
   counts = counts_alone o result cause;
   spares = spares_alone o result cause;
-  reads = reads_same h h' o (IsErrOf result faults.Source) heard;
+  reads = reads_same old.stage.mode h h' o (IsErrOf result faults.Source) (IsOk result) (no_source result (inside_taking result cause)) heard;
   within = rw heard (within_apart h result (inside_taking result cause));
   ends = λ apart. record { same = refl; unread = heard; inside = inside_taking result cause };
   database = database_kept o result;

@@ -1,5 +1,5 @@
 -- What a stage did in the room, as a step of a stage between its pipes.
-use Rattle.std.proofs.Common.{IfOk, OnOk, OnErr, IsErrOf, ◌≡◌, inl, inr, ℕ, Bool, false, List, Result, Ok, Err, refl}
+use Rattle.std.proofs.Common.{IfOk, IsOk, OnOk, OnErr, IsErrOf, ◌≡◌, inl, inr, ℕ, Bool, false, List, Result, Ok, Err, refl}
 use Rattle.frame_codec.specs.declared.frame.Frame.{Frame}
 use Rattle.net_core.specs.Causes.{IsCaused, MayNotWork}
 use Rattle.net_core.specs.declared.fault.WorkFault.{WorkFault}
@@ -36,7 +36,7 @@ goes moved b m e = rw m e
 pub worked : (l r : ℕ) (s s' : LocalState quel_sorts) (li lo ro ri : List Frame) (o o' : Outside) (h h' p p' : ℕ) (serves serves' : User → Type 0) (result : Result Moved WorkFault) → want s ≡ work →
     IfOk result (λ moved. moved ≡ Stepped) → ((user : User) → serves user → OnOk result (WorkDone (quel user) s s' (known o) (known o'))) →
     ((user : User) → serves user → OnErr result (FailedWork (quel user) s.mode o o')) → ((user : User) → serves user → IsErrOf result faults.Unlawful → MayNotWork (quel user) s.mode o) →
-    OnOk result (KeepsDatabase o o') → Later o o' → IsCaused h o o' result → CountsOnly o o' result → Spares o o' result → ReadsOn h h' o o' (IsErrOf result faults.Source) → Within h h' result → ((p ≡ 1 → ⊥) → LeavesEnds h h' o o' result) → ((user : User) → serves user → serves' user) → p' ≡ p →
+    OnOk result (KeepsDatabase o o') → Later o o' → IsCaused h o o' result → CountsOnly o o' result → Spares o o' result → ReadsOn s.mode h h' o o' (IsErrOf result faults.Source) (IsOk result) → Within h h' result → ((p ≡ 1 → ⊥) → LeavesEnds h h' o o' result) → ((user : User) → serves user → serves' user) → p' ≡ p →
     PipedDone l r (at_pipes s li lo ro ri) (at_pipes s' li lo ro ri) o o' h h' p p' serves serves' result
 worked l r s s' li lo ro ri o o' h h' p p' serves serves' result e stepped works failed unlawful database later cause counts spares reads within ends serve place = record {
   blocked = λ room. if_ok result _ _ (λ moved m. goes moved _ m (rw e refl)) stepped;

@@ -1,5 +1,5 @@
 -- Faults that come of one part or of one step, as those of the whole.
-use Rattle.std.proofs.Common.{IsErrOf, ◌≡◌, ◌==◌, ◌⊎◌, ◌+◌, ◌-◌, ◌^◌, ◌≤◌, ◌++◌, [], inl, inr, ℕ, true, false, Some, None, Result, Ok, Err, refl, sym, ap, ◌∙◌, append_assoc, length, length-append, arith}
+use Rattle.std.proofs.Common.{IsErrOf, ◌≡◌, ◌==◌, ◌⊎◌, ◌+◌, ◌-◌, ◌^◌, ◌≤◌, ◌++◌, [], ◌∷◌, inl, inr, ℕ, Bool, true, false, List, Some, None, Result, Ok, Err, refl, sym, ap, subst, ◌∙◌, append_assoc, append-nil, length, length-append, arith}
 use Rattle.std.proofs.lemmas.Grind.{common_steps}
 use Rattle.std.specs.declared.option.Option.{Option}
 use Rattle.calculus.specs.Database.{Db}
@@ -7,9 +7,11 @@ use Rattle.fault_io.specs.Causes.{Rose}
 use Rattle.net_core.specs.Causes.{IsCaused, MayCome}
 use Rattle.net_core.specs.declared.fault.WorkFault.{WorkFault}
 use Rattle.net_core.specs.declared.fault.WorkFault.TheVariants as faults
-use Rattle.net_core.specs.Reads.{CountsHeard, ReadsOn, Within}
+use Rattle.net_core.specs.Reads.{CountsHeard, IsWhole, ReadsNothing, ReadsOn, ReadsScript, ReadsWhole, SeesEnd, Within}
 use Rattle.net_core.specs.Spares.{Counts, CountsOnlyBy, IsInside, counts}
 use Rattle.net_core.specs.Known.{KeepsDatabase, KeepsScript, Later, Outside}
+use Rattle.network_meaning.specs.LocalSteps.{Mode}
+use Rattle.quel_network.specs.Sorts.{quel_sorts}
 
 -- ---- one part of those that read
 
@@ -27,12 +29,21 @@ pub caused_more : {T : Type 0} (heard whole rest : ℕ) (before after : Outside)
 caused_more heard whole rest before after (Ok x) e c = tt
 caused_more heard whole rest before after (Err fault) e c = may_come_more heard whole rest before after fault e c
 
-pub reads_more : (heard heard' whole whole' rest : ℕ) (before after : Outside) (failed : Type 0) → whole ≡ heard + rest → whole' ≡ heard' + rest → ReadsOn heard heard' before after failed → ReadsOn whole whole' before after failed
-reads_more heard heard' whole whole' rest before after failed e e' k = record {
+nothing_more : (heard heard' whole whole' rest : ℕ) (before after : Outside) (failed : Type 0) → whole ≡ heard + rest → whole' ≡ heard' + rest → ReadsNothing heard heard' before after failed → ReadsNothing whole whole' before after failed
+nothing_more heard heard' whole whole' rest before after failed e e' n = record { heard = omega (arith, n.heard, e, e'); script = n.script; fine = n.fine }
+
+pub reads_more : (mode mode' : Mode quel_sorts) (heard heard' whole whole' rest : ℕ) (before after : Outside) (failed done : Type 0) → mode ≡ mode' → whole ≡ heard + rest → whole' ≡ heard' + rest → ReadsOn mode heard heard' before after failed done → ReadsOn mode' whole whole' before after failed done
+reads_more mode mode' heard heard' whole whole' rest before after failed done m e e' k = record {
   line = λ script known. let (front, last, left, is, all, counted, free, one) = k.line script known in (front, last, left, is, all, omega (arith, counted, e, e'), free, one);
   broken = k.broken;
   given = let (n, counted, gave) = k.given in (n, omega (arith, counted, e, e'), gave);
+  asks = asked k.asks;
+  over = k.over;
 }
+  where
+    asked : ReadsScript mode ⊎ ReadsNothing heard heard' before after failed → ReadsScript mode' ⊎ ReadsNothing whole whole' before after failed
+    asked (inl s) = inl (subst ReadsScript m s)
+    asked (inr n) = inr (nothing_more heard heard' whole whole' rest before after failed e e' n)
 
 -- ---- one step behind others
 
@@ -59,8 +70,8 @@ script_more h h' h'' a b c f g script known =
     (xs ++ ys, rest, is', all ∙ ap (λ x. xs ++ x) all' ∙ sym (append_assoc xs ys rest), omega (arith, counted, counted', sum))
 
 -- what one step reads
-pub script_of : (h h' : ℕ) (before after : Outside) (failed : Type 0) → ReadsOn h h' before after failed → KeepsScript h h' before after
-script_of h h' before after failed k script known = let (front, last, rest, is, all, counted, free, one) = k.line script known in (front ++ last, rest, is, all, counted)
+pub script_of : (mode : Mode quel_sorts) (h h' : ℕ) (before after : Outside) (failed done : Type 0) → ReadsOn mode h h' before after failed done → KeepsScript h h' before after
+script_of mode h h' before after failed done k script known = let (front, last, rest, is, all, counted, free, one) = k.line script known in (front ++ last, rest, is, all, counted)
 
 pub heard_same : (h h' given : ℕ) → h' ≡ h → CountsHeard h h' given given
 heard_same h h' given e = (0, omega (arith, e), inl (omega arith))
@@ -73,11 +84,21 @@ heard_more h h' h'' a b c (n, e, f) (m, e', g) = (n + m, omega (arith, e, e'), g
     gave (inr x) (inl y) = inr (omega (arith, x, y))
     gave x (inr y) = inr y
 
-pub reads_same : (h h' : ℕ) (o : Outside) (failed : Type 0) → h' ≡ h → ReadsOn h h' o o failed
-reads_same h h' o failed e = record {
+-- nothing was read, and the source is as it was
+pub sees_nothing : (before after : Outside) (failed done : Type 0) → after.script ≡ before.script → after.source_ended ≡ before.source_ended → (failed → ⊥) → SeesEnd before after failed done
+sees_nothing before after failed done same ended fine = record {
+  stays = λ d e. ended ∙ e;
+  whole = λ d. inl (λ script known. ([], script, same ∙ known, refl, inl refl));
+  going = λ f. absurd (fine f);
+}
+
+pub reads_same : (mode : Mode quel_sorts) (h h' : ℕ) (o : Outside) (failed done : Type 0) → (failed → ⊥) → h' ≡ h → ReadsOn mode h h' o o failed done
+reads_same mode h h' o failed done fine e = record {
   line = λ script known. ([], [], script, known, refl, omega (arith, e), refl, omega arith);
   broken = λ f script known. ([], script, known, refl, refl);
   given = heard_same h h' o.given e;
+  asks = inr (record { heard = e; script = refl; fine = fine });
+  over = sees_nothing o o failed done refl refl fine;
 }
 
 pub database_same : (o : Outside) → KeepsDatabase o o
@@ -134,13 +155,66 @@ within_apart one (Err faults.OutOfMemory) h le = le
 
 -- ---- what the author of a stage owes that reads nothing
 
--- the script and the count of the source are as they were
-pub reads_nothing : (h : ℕ) (before after : Outside) (failed : Type 0) → after.script ≡ before.script → after.given ≡ before.given → ReadsOn h h before after failed
-reads_nothing h before after failed same given = record {
+-- the script, the count and the end of the source are as they were, and no fault is the source's
+pub reads_nothing : (mode : Mode quel_sorts) (h : ℕ) (before after : Outside) (failed done : Type 0) → after.script ≡ before.script → after.given ≡ before.given → after.source_ended ≡ before.source_ended → (failed → ⊥) → ReadsOn mode h h before after failed done
+reads_nothing mode h before after failed done same given ended fine = record {
   line = λ script known. ([], [], script, same ∙ known, refl, omega arith, refl, omega arith);
   broken = λ f script known. ([], script, same ∙ known, refl, refl);
   given = (0, omega arith, inl (omega (arith, given)));
+  asks = inr (record { heard = refl; script = same; fine = fine });
+  over = sees_nothing before after failed done same ended fine;
 }
+
+-- a result whose fault is none of the source, the sink or the script's length is no fault of the source
+pub no_source : {T : Type 0} (result : Result T WorkFault) → IsInside result → IsErrOf result faults.Source → ⊥
+no_source (Ok x) inside is = is
+no_source (Err faults.Source) inside is = inside
+no_source (Err faults.Sink) inside is = inside
+no_source (Err faults.TooLong) inside is = inside
+no_source (Err faults.Disk) inside is = cc is
+no_source (Err (faults.Damaged file page)) inside is = cc is
+no_source (Err faults.Shelf) inside is = cc is
+no_source (Err faults.Unlawful) inside is = cc is
+no_source (Err faults.OutOfMemory) inside is = cc is
+
+-- ---- whole lines
+
+pub whole_behind : (xs ys : List ℕ) → IsWhole xs → IsWhole ys → IsWhole (xs ++ ys)
+whole_behind xs ys w (inl e) = subst IsWhole (sym (ap (λ (y : List ℕ). xs ++ y) e ∙ append-nil xs)) w
+whole_behind xs ys w (inr (front, e)) = inr (xs ++ front, ap (λ (y : List ℕ). xs ++ y) e ∙ sym (append_assoc xs front (10 ∷ [])))
+
+pub whole_more : (a b c : Option (List ℕ)) → ReadsWhole a b → ReadsWhole b c → ReadsWhole a c
+whole_more a b c f g script known =
+    let (xs, mid, is, all, w) = f script known in
+    let (ys, rest, is', all', w') = g mid is in
+    (xs ++ ys, rest, is', all ∙ ap (λ x. xs ++ x) all' ∙ sym (append_assoc xs ys rest), whole_behind xs ys w w')
+
+pub whole_same : (a : Option (List ℕ)) → ReadsWhole a a
+whole_same a script known = ([], script, known, refl, inl refl)
+
+-- the end of the source, behind steps that came to their end
+pub sees_more : (a b c : Outside) (failed done first : Type 0) → first → SeesEnd a b ⊥ first → SeesEnd b c failed done → SeesEnd a c failed done
+sees_more a b c failed done first y f g = record {
+  stays = λ d e. g.stays d (f.stays y e);
+  whole = λ d. joined d (f.whole y) (g.whole d);
+  going = λ x. earlier (a.source_ended) refl (g.going x);
+}
+  where
+    joined : done → ReadsWhole a.script b.script ⊎ (b.source_ended ≡ true) → ReadsWhole b.script c.script ⊎ (c.source_ended ≡ true) → ReadsWhole a.script c.script ⊎ (c.source_ended ≡ true)
+    joined d (inr e) w = inr (g.stays d e)
+    joined d (inl w) (inl v) = inl (whole_more a.script b.script c.script w v)
+    joined d (inl w) (inr e) = inr e
+    earlier : (was : Bool) → a.source_ended ≡ was → b.source_ended ≡ false → a.source_ended ≡ false
+    earlier false is e = is
+    earlier true is e = absurd (let still = f.stays y is in cc (still, e))
+
+-- whole lines were read up to a place where the source hadn't ended
+pub whole_unended : (a b : Outside) (failed done : Type 0) → done → SeesEnd a b failed done → b.source_ended ≡ false → ReadsWhole a.script b.script
+whole_unended a b failed done y s e = by (s.whole y)
+  where
+    by : ReadsWhole a.script b.script ⊎ (b.source_ended ≡ true) → ReadsWhole a.script b.script
+    by (inl w) = w
+    by (inr is) = absurd (cc (is, e))
 
 -- the script isn't too long
 pub within_nothing : {T : Type 0} (one : ℕ) (result : Result T WorkFault) → (IsErrOf result faults.TooLong → ⊥) → Within one one result

@@ -1,5 +1,5 @@
 -- A step of a stage between its pipes, as a step of the network.
-use Rattle.std.proofs.Common.{IfOk, OnErr, IsErrOf, ◌≡◌, ◌+◌, ℕ, Bool, true, false, [], Result, refl, sym, ap, subst, arith}
+use Rattle.std.proofs.Common.{IfOk, IsOk, OnErr, IsErrOf, ◌≡◌, ◌+◌, ℕ, Bool, true, false, [], Result, refl, sym, ap, subst, arith}
 use Rattle.net_core.specs.declared.fault.WorkFault.{WorkFault}
 use Rattle.net_core.specs.declared.fault.WorkFault.TheVariants as faults
 use Rattle.net_core.specs.Reads.{Within}
@@ -96,7 +96,7 @@ step_done capacity k n n' s o o' h h' p p' whole whole' one one' rest serves ser
   later = d.later;
   counts = d.counts;
   spares = d.spares;
-  reads = reads_more h h' whole whole' rest o o' (IsErrOf result faults.Source) sum sum' d.reads;
+  reads = reads_more (piped_of n k).stage.mode (state_at n k).mode h h' whole whole' rest o o' (IsErrOf result faults.Source) (IsOk result) (ap (λ (a : LocalState quel_sorts). a.mode) (state_is k n)) sum sum' d.reads;
   within = within;
   ends = λ numbered not_first. let e = d.ends (apart numbered not_first) in record { same = e.same; unread = (let same = e.unread in omega (arith, same, sum, sum')); inside = e.inside };
   database = d.database;

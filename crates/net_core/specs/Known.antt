@@ -1,5 +1,5 @@
 -- What a room tells, and what failing work leaves of it.
-use Rattle.std.specs.Prelude.{◌≡◌, ◌⊎◌, ◌++◌, ◌+◌, ◌≤◌, ℕ, List, Some, length}
+use Rattle.std.specs.Prelude.{◌≡◌, ◌⊎◌, ◌++◌, ◌+◌, ◌≤◌, ℕ, Bool, List, Some, length}
 use Rattle.std.specs.declared.option.Option.{Option}
 use Rattle.std.specs.Io.KnownBytes.{Appends}
 use Rattle.calculus.specs.Database.{Db}
@@ -13,7 +13,7 @@ use Rattle.network_meaning.specs.Network.{LocalState, want}
 use Rattle.net_core.specs.declared.room.Room.{Room}
 use Rattle.quel_network.specs.Sorts.{quel_sorts}
 
--- the outside as a room has it: the database, the files, what is left of the script and what was written, where they are known; how often calls of each failed, how often the sink took nothing, and how many bytes the source gave; and the clock and the count of reads of the disk below the database
+-- the outside as a room has it: the database, the files, what is left of the script and what was written, where they are known; how often calls of each failed, how often the sink took nothing, how many bytes the source gave and whether it has answered that it has ended; and the clock and the count of reads of the disk below the database
 pub record Outside : Type 0 where
   pub database : Option Db
   pub base_faults : ℕ
@@ -24,13 +24,14 @@ pub record Outside : Type 0 where
   pub script : Option (List ℕ)
   pub given : ℕ
   pub source_faults : ℕ
+  pub source_ended : Bool
   pub output : Option (List ℕ)
   pub sink_faults : ℕ
   pub sink_stalls : ℕ
 
 -- the outside of a room, by what its parts tell
-abbrev pub outside : {B H S K : Type 0} → (B → Option Db) → (B → ℕ) → (B → ℕ) → (B → ℕ) → (H → Option Files) → (H → ℕ) → (S → Option (List ℕ)) → (S → ℕ) → (S → ℕ) → (K → Option (List ℕ)) → (K → ℕ) → (K → ℕ) → Room B H S K → Outside
-outside database base_faults clock reads files shelf_faults left given source_faults written sink_faults stalls room = record {
+abbrev pub outside : {B H S K : Type 0} → (B → Option Db) → (B → ℕ) → (B → ℕ) → (B → ℕ) → (H → Option Files) → (H → ℕ) → (S → Option (List ℕ)) → (S → ℕ) → (S → ℕ) → (S → Bool) → (K → Option (List ℕ)) → (K → ℕ) → (K → ℕ) → Room B H S K → Outside
+outside database base_faults clock reads files shelf_faults left given source_faults source_ended written sink_faults stalls room = record {
   database = database room.base;
   base_faults = base_faults room.base;
   clock = clock room.base;
@@ -40,6 +41,7 @@ outside database base_faults clock reads files shelf_faults left given source_fa
   script = left room.source;
   given = given room.source;
   source_faults = source_faults room.source;
+  source_ended = source_ended room.source;
   output = written room.sink;
   sink_faults = sink_faults room.sink;
   sink_stalls = stalls room.sink;

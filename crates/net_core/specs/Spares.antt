@@ -1,5 +1,5 @@
 -- What a step leaves alone: counts that its fault doesn't name, what was written and stored before reading failed, and the source and the sink where it isn't the first stage's.
-use Rattle.std.specs.Prelude.{◌≡◌, ℕ, List, Option, Result, Ok, Err, ⊤}
+use Rattle.std.specs.Prelude.{◌≡◌, ℕ, Bool, List, Option, Result, Ok, Err, ⊤}
 use Rattle.net_core.specs.declared.fault.WorkFault.{WorkFault}
 use Rattle.net_core.specs.declared.fault.WorkFault.TheVariants as faults
 use Rattle.net_core.specs.Known.{Outside}
@@ -47,17 +47,18 @@ abbrev pub Spares : {T : Type 0} → Outside → Outside → Result T WorkFault 
 Spares before after (Ok x) = ⊤
 Spares before after (Err fault) = SparesBy before after fault
 
--- the source and the sink: the script, how much was given, what was written, and their counts
+-- the source and the sink: the script, how much was given, whether it has ended, what was written, and their counts
 pub record Ends : Type 0 where
   pub script : Option (List ℕ)
   pub given : ℕ
   pub source_faults : ℕ
+  pub source_ended : Bool
   pub output : Option (List ℕ)
   pub sink_faults : ℕ
   pub sink_stalls : ℕ
 
 abbrev pub ends : Outside → Ends
-ends o = record { script = o.script; given = o.given; source_faults = o.source_faults; output = o.output; sink_faults = o.sink_faults; sink_stalls = o.sink_stalls }
+ends o = record { script = o.script; given = o.given; source_faults = o.source_faults; source_ended = o.source_ended; output = o.output; sink_faults = o.sink_faults; sink_stalls = o.sink_stalls }
 
 -- the fault is none of the source, the sink or the script's length
 abbrev pub IsNoFaultOfEnds : WorkFault → Type 0

@@ -1,5 +1,5 @@
 -- What a step did, of one stage between its pipes and of the network.
-use Rattle.std.specs.Prelude.{◌≡◌, ◌⊎◌, ℕ, Bool, true, false, List, Some, ⊤, Result, IfOk, OnOk, OnErr, IsErrOf}
+use Rattle.std.specs.Prelude.{◌≡◌, ◌⊎◌, ℕ, Bool, true, false, List, Some, ⊤, Result, IfOk, IsOk, OnOk, OnErr, IsErrOf}
 use Rattle.frame_codec.specs.declared.frame.Frame.{Frame}
 use Rattle.net_core.specs.Causes.{IsCaused, MayNotTake, MayNotWork}
 use Rattle.net_core.specs.declared.fault.WorkFault.{WorkFault}
@@ -73,7 +73,7 @@ pub record PipedDone (left right : ℕ) (old new : Piped) (before after : Outsid
   pub later : Later before after
   pub counts : CountsOnly before after result
   pub spares : Spares before after result
-  pub reads : ReadsOn heard heard' before after (IsErrOf result faults.Source)
+  pub reads : ReadsOn old.stage.mode heard heard' before after (IsErrOf result faults.Source) (IsOk result)
   pub within : Within heard heard' result
   pub ends : (place ≡ 1 → ⊥) → LeavesEnds heard heard' before after result
   pub database : OnOk result (KeepsDatabase before after)
@@ -91,7 +91,7 @@ pub record StepDone (capacity : ℕ) (k : StageNumber) (old new : Shape quel_sor
   pub later : Later before after
   pub counts : CountsOnly before after result
   pub spares : Spares before after result
-  pub reads : ReadsOn heard heard' before after (IsErrOf result faults.Source)
+  pub reads : ReadsOn (state_at old k).mode heard heard' before after (IsErrOf result faults.Source) (IsOk result)
   pub within : numbers → Within one one' result
   pub ends : numbers → (k ≡ first → ⊥) → LeavesEnds heard heard' before after result
   pub database : OnOk result (KeepsDatabase before after)

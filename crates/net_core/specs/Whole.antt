@@ -6,7 +6,7 @@ use Rattle.net_core.specs.Causes.{MayNotTake, MayNotWork}
 use Rattle.net_core.specs.declared.fault.WorkFault.{WorkFault}
 use Rattle.net_core.specs.declared.fault.WorkFault.TheVariants as faults
 use Rattle.net_core.specs.declared.net.Net.{Net}
-use Rattle.net_core.specs.Reads.{ReadsOn}
+use Rattle.net_core.specs.Reads.{ReadsOn, ReadsWhole}
 use Rattle.net_core.specs.Spares.{CountsOnlyBy, IsNoFaultOfEnds, SparesBy, ends}
 use Rattle.net_core.specs.Known.{FailedStep, Outside, known}
 use Rattle.net_core.specs.Wants.{HasEnded}
@@ -78,7 +78,7 @@ MayNotStep L k s o =
     ((frame : Frame) × ((r : NetworkRoom quel_sorts) → comes (between (join s r) k) ≡ Some frame) × MayNotTake L (state_at s k) frame)
     ⊎ ((want (state_at s k) ≡ work) × MayNotWork L (state_at s k).mode o)
 
--- the steps of a list were made up to one that failed by this fault, in front of which the network and all outside it were so, and so many bytes were read; the stages have these numbers; it has left a part of what its stage does, or nothing
+-- the steps of a list were made up to one that failed by this fault, in front of which the network and all outside it were so, and so many bytes were read, whole lines where the source failed; the stages have these numbers; it has left a part of what its stage does, or nothing
 pub record StopsAt (L : Language quel_sorts) (capacity : ℕ) (turns numbers : List ℕ) (heard : ℕ) (old : Seen quel_sorts) (after : Outside) (fault : WorkFault) : Type 0 where
   pub made : List ℕ
   pub failed : ℕ
@@ -91,7 +91,8 @@ pub record StopsAt (L : Language quel_sorts) (capacity : ℕ) (turns numbers : L
   pub part : FailedStep L (state_at before.shape (stage_number failed)) outside after
   pub wrote : WroteFront L before after
   pub read : ℕ
-  pub reads : ReadsOn read heard outside after (fault ≡ faults.Source)
+  pub reads : ReadsOn (state_at before.shape (stage_number failed)).mode read heard outside after (fault ≡ faults.Source) ⊥
+  pub whole : fault ≡ faults.Source → ReadsWhole old.known.script outside.script
   pub counts : CountsOnlyBy outside after fault
   pub spares : SparesBy outside after fault
   pub apart : numbers ≡ 1 ∷ 2 ∷ 3 ∷ 4 ∷ [] → (stage_number failed ≡ first → ⊥) → (ends after ≡ ends outside) × (heard ≡ read) × IsNoFaultOfEnds fault

@@ -1,6 +1,6 @@
 //! What one stage does: at one of its pipes, in the room, and between all its pipes.
 
-ghost use Rattle.std.specs.Prelude.{◌≡◌, ◌∷◌, ℕ, IfErr, IfOk, IsErrOf, List, OnErr, OnOk};
+ghost use Rattle.std.specs.Prelude.{◌≡◌, ◌∷◌, ℕ, IfErr, IfOk, IsErrOf, IsOk, List, OnErr, OnOk};
 ghost use Rattle.frame_codec.specs.declared.frame.Frame.{Frame as FrameOf};
 ghost use Rattle.net_core.specs.Causes.{IsCaused, MayNotTake, MayNotWork};
 ghost use Rattle.net_core.specs.Crashes.{HandsOver, QuietWithout, StaysDurable, StepCrash, WorkLeaves};
@@ -82,45 +82,45 @@ fn work_on<A: Stage, B: Base, H: Shelf, S: Source, K: Sink>(
     requires { IsToWork (A.state stage.old) }
     ensures stepped { IfOk result (λ moved. moved ≡ Stepped) }
     ensures works { (user : User) → A.serves stage.old user → OnOk result (WorkDone (quel user) (A.state stage.old) (A.state stage.new)
-        (known (outside B.database B.faults B.clock B.reads H.files H.faults S.left S.given S.faults K.written K.faults K.stalls room.old))
-        (known (outside B.database B.faults B.clock B.reads H.files H.faults S.left S.given S.faults K.written K.faults K.stalls room.new))) }
+        (known (outside B.database B.faults B.clock B.reads H.files H.faults S.left S.given S.faults S.ended K.written K.faults K.stalls room.old))
+        (known (outside B.database B.faults B.clock B.reads H.files H.faults S.left S.given S.faults S.ended K.written K.faults K.stalls room.new))) }
     ensures failed { (user : User) → A.serves stage.old user → OnErr result (FailedWork (quel user) (A.state stage.old).mode
-        (outside B.database B.faults B.clock B.reads H.files H.faults S.left S.given S.faults K.written K.faults K.stalls room.old)
-        (outside B.database B.faults B.clock B.reads H.files H.faults S.left S.given S.faults K.written K.faults K.stalls room.new)) }
+        (outside B.database B.faults B.clock B.reads H.files H.faults S.left S.given S.faults S.ended K.written K.faults K.stalls room.old)
+        (outside B.database B.faults B.clock B.reads H.files H.faults S.left S.given S.faults S.ended K.written K.faults K.stalls room.new)) }
     ensures unlawful { (user : User) → A.serves stage.old user → IsErrOf result WorkFault.Unlawful → MayNotWork (quel user) (A.state stage.old).mode
-        (outside B.database B.faults B.clock B.reads H.files H.faults S.left S.given S.faults K.written K.faults K.stalls room.old) }
+        (outside B.database B.faults B.clock B.reads H.files H.faults S.left S.given S.faults S.ended K.written K.faults K.stalls room.old) }
     ensures database { OnOk result (KeepsDatabase
-        (outside B.database B.faults B.clock B.reads H.files H.faults S.left S.given S.faults K.written K.faults K.stalls room.old)
-        (outside B.database B.faults B.clock B.reads H.files H.faults S.left S.given S.faults K.written K.faults K.stalls room.new)) }
+        (outside B.database B.faults B.clock B.reads H.files H.faults S.left S.given S.faults S.ended K.written K.faults K.stalls room.old)
+        (outside B.database B.faults B.clock B.reads H.files H.faults S.left S.given S.faults S.ended K.written K.faults K.stalls room.new)) }
     ensures later { Later
-        (outside B.database B.faults B.clock B.reads H.files H.faults S.left S.given S.faults K.written K.faults K.stalls room.old)
-        (outside B.database B.faults B.clock B.reads H.files H.faults S.left S.given S.faults K.written K.faults K.stalls room.new) }
+        (outside B.database B.faults B.clock B.reads H.files H.faults S.left S.given S.faults S.ended K.written K.faults K.stalls room.old)
+        (outside B.database B.faults B.clock B.reads H.files H.faults S.left S.given S.faults S.ended K.written K.faults K.stalls room.new) }
     ensures cause { IsCaused (A.heard stage.old)
-        (outside B.database B.faults B.clock B.reads H.files H.faults S.left S.given S.faults K.written K.faults K.stalls room.old)
-        (outside B.database B.faults B.clock B.reads H.files H.faults S.left S.given S.faults K.written K.faults K.stalls room.new) result }
+        (outside B.database B.faults B.clock B.reads H.files H.faults S.left S.given S.faults S.ended K.written K.faults K.stalls room.old)
+        (outside B.database B.faults B.clock B.reads H.files H.faults S.left S.given S.faults S.ended K.written K.faults K.stalls room.new) result }
     ensures counts { CountsOnly
-        (outside B.database B.faults B.clock B.reads H.files H.faults S.left S.given S.faults K.written K.faults K.stalls room.old)
-        (outside B.database B.faults B.clock B.reads H.files H.faults S.left S.given S.faults K.written K.faults K.stalls room.new) result }
+        (outside B.database B.faults B.clock B.reads H.files H.faults S.left S.given S.faults S.ended K.written K.faults K.stalls room.old)
+        (outside B.database B.faults B.clock B.reads H.files H.faults S.left S.given S.faults S.ended K.written K.faults K.stalls room.new) result }
     ensures spares { Spares
-        (outside B.database B.faults B.clock B.reads H.files H.faults S.left S.given S.faults K.written K.faults K.stalls room.old)
-        (outside B.database B.faults B.clock B.reads H.files H.faults S.left S.given S.faults K.written K.faults K.stalls room.new) result }
-    ensures reads { ReadsOn (A.heard stage.old) (A.heard stage.new)
-        (outside B.database B.faults B.clock B.reads H.files H.faults S.left S.given S.faults K.written K.faults K.stalls room.old)
-        (outside B.database B.faults B.clock B.reads H.files H.faults S.left S.given S.faults K.written K.faults K.stalls room.new) (IsErrOf result WorkFault.Source) }
+        (outside B.database B.faults B.clock B.reads H.files H.faults S.left S.given S.faults S.ended K.written K.faults K.stalls room.old)
+        (outside B.database B.faults B.clock B.reads H.files H.faults S.left S.given S.faults S.ended K.written K.faults K.stalls room.new) result }
+    ensures reads { ReadsOn (A.state stage.old).mode (A.heard stage.old) (A.heard stage.new)
+        (outside B.database B.faults B.clock B.reads H.files H.faults S.left S.given S.faults S.ended K.written K.faults K.stalls room.old)
+        (outside B.database B.faults B.clock B.reads H.files H.faults S.left S.given S.faults S.ended K.written K.faults K.stalls room.new) (IsErrOf result WorkFault.Source) (IsOk result) }
     ensures within { Within (A.heard stage.old) (A.heard stage.new) result }
     ensures ends { (A.place stage.old ≡ 1 → ⊥) → LeavesEnds (A.heard stage.old) (A.heard stage.new)
-        (outside B.database B.faults B.clock B.reads H.files H.faults S.left S.given S.faults K.written K.faults K.stalls room.old)
-        (outside B.database B.faults B.clock B.reads H.files H.faults S.left S.given S.faults K.written K.faults K.stalls room.new) result }
+        (outside B.database B.faults B.clock B.reads H.files H.faults S.left S.given S.faults S.ended K.written K.faults K.stalls room.old)
+        (outside B.database B.faults B.clock B.reads H.files H.faults S.left S.given S.faults S.ended K.written K.faults K.stalls room.new) result }
     ensures handed { OnOk result (HandsOver (A.state stage.old) (A.state stage.new) (B.schema room.new.base) (B.database room.new.base)) }
     ensures crash { (user : User) → A.serves stage.old user → WorkLeaves (quel user) (A.state stage.old).mode
-        (outside B.database B.faults B.clock B.reads H.files H.faults S.left S.given S.faults K.written K.faults K.stalls room.old)
-        (outside B.database B.faults B.clock B.reads H.files H.faults S.left S.given S.faults K.written K.faults K.stalls room.new) (B.left_since room.old.base) (B.left_since room.new.base) }
+        (outside B.database B.faults B.clock B.reads H.files H.faults S.left S.given S.faults S.ended K.written K.faults K.stalls room.old)
+        (outside B.database B.faults B.clock B.reads H.files H.faults S.left S.given S.faults S.ended K.written K.faults K.stalls room.new) (B.left_since room.old.base) (B.left_since room.new.base) }
     ensures durable { OnOk result (StaysDurable
-        (outside B.database B.faults B.clock B.reads H.files H.faults S.left S.given S.faults K.written K.faults K.stalls room.old)
-        (outside B.database B.faults B.clock B.reads H.files H.faults S.left S.given S.faults K.written K.faults K.stalls room.new) (B.left_since room.old.base) (B.left_since room.new.base)) }
+        (outside B.database B.faults B.clock B.reads H.files H.faults S.left S.given S.faults S.ended K.written K.faults K.stalls room.old)
+        (outside B.database B.faults B.clock B.reads H.files H.faults S.left S.given S.faults S.ended K.written K.faults K.stalls room.new) (B.left_since room.old.base) (B.left_since room.new.base)) }
     ensures quiet { QuietWithout (A.state stage.old)
-        (outside B.database B.faults B.clock B.reads H.files H.faults S.left S.given S.faults K.written K.faults K.stalls room.old)
-        (outside B.database B.faults B.clock B.reads H.files H.faults S.left S.given S.faults K.written K.faults K.stalls room.new) }
+        (outside B.database B.faults B.clock B.reads H.files H.faults S.left S.given S.faults S.ended K.written K.faults K.stalls room.old)
+        (outside B.database B.faults B.clock B.reads H.files H.faults S.left S.given S.faults S.ended K.written K.faults K.stalls room.new) }
     ensures serves { (user : User) → A.serves stage.old user → A.serves stage.new user }
     ensures place { A.place stage.new ≡ A.place stage.old }
 {
@@ -144,12 +144,12 @@ pub(crate) fn step_stage<A: Stage, B: Base, H: Shelf, S: Source, K: Sink>(
     ensures done { PipedDone left right
         (record { stage = A.state stage.old; left_in = left_in.old.items; left_out = left_out.old.items; right_out = right_out.old.items; right_in = right_in.old.items })
         (record { stage = A.state stage.new; left_in = left_in.new.items; left_out = left_out.new.items; right_out = right_out.new.items; right_in = right_in.new.items })
-        (outside B.database B.faults B.clock B.reads H.files H.faults S.left S.given S.faults K.written K.faults K.stalls room.old)
-        (outside B.database B.faults B.clock B.reads H.files H.faults S.left S.given S.faults K.written K.faults K.stalls room.new)
+        (outside B.database B.faults B.clock B.reads H.files H.faults S.left S.given S.faults S.ended K.written K.faults K.stalls room.old)
+        (outside B.database B.faults B.clock B.reads H.files H.faults S.left S.given S.faults S.ended K.written K.faults K.stalls room.new)
         (A.heard stage.old) (A.heard stage.new) (A.place stage.old) (A.place stage.new) (A.serves stage.old) (A.serves stage.new) result }
     ensures crash { StepCrash (A.serves stage.old) (A.state stage.old) (A.state stage.new)
-        (outside B.database B.faults B.clock B.reads H.files H.faults S.left S.given S.faults K.written K.faults K.stalls room.old)
-        (outside B.database B.faults B.clock B.reads H.files H.faults S.left S.given S.faults K.written K.faults K.stalls room.new) (B.left_since room.old.base) (B.left_since room.new.base) (B.schema room.new.base) result }
+        (outside B.database B.faults B.clock B.reads H.files H.faults S.left S.given S.faults S.ended K.written K.faults K.stalls room.old)
+        (outside B.database B.faults B.clock B.reads H.files H.faults S.left S.given S.faults S.ended K.written K.faults K.stalls room.new) (B.left_since room.old.base) (B.left_since room.new.base) (B.schema room.new.base) result }
 {
     match stage.want() {
         Want::TakeLeft => take_from(alloc, stage, left_in),

@@ -29,37 +29,37 @@ fn run<T: Stage, I: Source, O: Sink, L: Link, B: Base, H: Shelf, S: Source, K: S
     room: &mut Room<B, H, S, K>,
 ) -> Result<(), LoopFault>
     ensures done { RanWhole (T.serves stage.old)
-        (record { state = T.state stage.old; outside = outside B.database B.faults B.clock B.reads H.files H.faults S.left S.given S.faults K.written K.faults K.stalls room.old; schema = B.schema room.old.base })
+        (record { state = T.state stage.old; outside = outside B.database B.faults B.clock B.reads H.files H.faults S.left S.given S.faults S.ended K.written K.faults K.stalls room.old; schema = B.schema room.old.base })
         (T.heard stage.old) (T.state stage.new) (B.schema room.new.base)
-        (outside B.database B.faults B.clock B.reads H.files H.faults S.left S.given S.faults K.written K.faults K.stalls room.old)
-        (outside B.database B.faults B.clock B.reads H.files H.faults S.left S.given S.faults K.written K.faults K.stalls room.new)
+        (outside B.database B.faults B.clock B.reads H.files H.faults S.left S.given S.faults S.ended K.written K.faults K.stalls room.old)
+        (outside B.database B.faults B.clock B.reads H.files H.faults S.left S.given S.faults S.ended K.written K.faults K.stalls room.new)
         (sides I.left I.faults O.written O.faults O.stalls L.left L.written L.faults L.stalls left_in.old left_out.old right.old)
         (sides I.left I.faults O.written O.faults O.stalls L.left L.written L.faults L.stalls left_in.new left_out.new right.new)
         (B.left_since room.old.base) (B.left_since room.new.base) result }
     ensures database { OnOk result (KeepsDatabase
-        (outside B.database B.faults B.clock B.reads H.files H.faults S.left S.given S.faults K.written K.faults K.stalls room.old)
-        (outside B.database B.faults B.clock B.reads H.files H.faults S.left S.given S.faults K.written K.faults K.stalls room.new)) }
+        (outside B.database B.faults B.clock B.reads H.files H.faults S.left S.given S.faults S.ended K.written K.faults K.stalls room.old)
+        (outside B.database B.faults B.clock B.reads H.files H.faults S.left S.given S.faults S.ended K.written K.faults K.stalls room.new)) }
     ensures later { Later
-        (outside B.database B.faults B.clock B.reads H.files H.faults S.left S.given S.faults K.written K.faults K.stalls room.old)
-        (outside B.database B.faults B.clock B.reads H.files H.faults S.left S.given S.faults K.written K.faults K.stalls room.new) }
+        (outside B.database B.faults B.clock B.reads H.files H.faults S.left S.given S.faults S.ended K.written K.faults K.stalls room.old)
+        (outside B.database B.faults B.clock B.reads H.files H.faults S.left S.given S.faults S.ended K.written K.faults K.stalls room.new) }
     ensures heard { KeepsScript (T.heard stage.old) (T.heard stage.new)
-        (outside B.database B.faults B.clock B.reads H.files H.faults S.left S.given S.faults K.written K.faults K.stalls room.old)
-        (outside B.database B.faults B.clock B.reads H.files H.faults S.left S.given S.faults K.written K.faults K.stalls room.new) }
+        (outside B.database B.faults B.clock B.reads H.files H.faults S.left S.given S.faults S.ended K.written K.faults K.stalls room.old)
+        (outside B.database B.faults B.clock B.reads H.files H.faults S.left S.given S.faults S.ended K.written K.faults K.stalls room.new) }
     // Only the first stage reads the source and writes to the sink.
     ensures ends { (T.place stage.old ≡ 1 → ⊥) → EndsKept (T.heard stage.old) (T.heard stage.new)
-        (outside B.database B.faults B.clock B.reads H.files H.faults S.left S.given S.faults K.written K.faults K.stalls room.old)
-        (outside B.database B.faults B.clock B.reads H.files H.faults S.left S.given S.faults K.written K.faults K.stalls room.new) result }
+        (outside B.database B.faults B.clock B.reads H.files H.faults S.left S.given S.faults S.ended K.written K.faults K.stalls room.old)
+        (outside B.database B.faults B.clock B.reads H.files H.faults S.left S.given S.faults S.ended K.written K.faults K.stalls room.new) result }
     ensures given { CountsHeard (T.heard stage.old) (T.heard stage.new) (S.given room.old.source) (S.given room.new.source) }
     // The script is too long exactly where more of it was read than a script may have.
     ensures within { LoopWithin (T.heard stage.old) (T.heard stage.new) result }
     // No count of the room rose, unless work failed: then only that which its fault names.
     ensures counts { LoopCounts
-        (outside B.database B.faults B.clock B.reads H.files H.faults S.left S.given S.faults K.written K.faults K.stalls room.old)
-        (outside B.database B.faults B.clock B.reads H.files H.faults S.left S.given S.faults K.written K.faults K.stalls room.new) result }
+        (outside B.database B.faults B.clock B.reads H.files H.faults S.left S.given S.faults S.ended K.written K.faults K.stalls room.old)
+        (outside B.database B.faults B.clock B.reads H.files H.faults S.left S.given S.faults S.ended K.written K.faults K.stalls room.new) result }
     // Where each image stood for the database, after Ok each one stands for that of after.
     ensures durable { OnOk result (StaysDurable
-        (outside B.database B.faults B.clock B.reads H.files H.faults S.left S.given S.faults K.written K.faults K.stalls room.old)
-        (outside B.database B.faults B.clock B.reads H.files H.faults S.left S.given S.faults K.written K.faults K.stalls room.new) (B.left_since room.old.base) (B.left_since room.new.base)) }
+        (outside B.database B.faults B.clock B.reads H.files H.faults S.left S.given S.faults S.ended K.written K.faults K.stalls room.old)
+        (outside B.database B.faults B.clock B.reads H.files H.faults S.left S.given S.faults S.ended K.written K.faults K.stalls room.new) (B.left_since room.old.base) (B.left_since room.new.base)) }
     ensures serves { (user : User) → T.serves stage.old user → T.serves stage.new user }
     ensures place { T.place stage.new ≡ T.place stage.old }
 {
@@ -97,35 +97,35 @@ pub fn stage_loop<T: Stage, I: Source, O: Sink, L: Link, B: Base, H: Shelf, S: S
     room: &mut Room<B, H, S, K>,
 ) -> Result<(), LoopFault>
     ensures done { LoopDone (T.serves stage.old) (T.place stage.old) (T.heard stage.old) (T.state stage.old) (T.state stage.new) (B.schema room.old.base) (B.schema room.new.base)
-        (outside B.database B.faults B.clock B.reads H.files H.faults S.left S.given S.faults K.written K.faults K.stalls room.old)
-        (outside B.database B.faults B.clock B.reads H.files H.faults S.left S.given S.faults K.written K.faults K.stalls room.new)
+        (outside B.database B.faults B.clock B.reads H.files H.faults S.left S.given S.faults S.ended K.written K.faults K.stalls room.old)
+        (outside B.database B.faults B.clock B.reads H.files H.faults S.left S.given S.faults S.ended K.written K.faults K.stalls room.new)
         (sides I.left I.faults O.written O.faults O.stalls L.left L.written L.faults L.stalls left_in.old left_out.old right.old)
         (sides I.left I.faults O.written O.faults O.stalls L.left L.written L.faults L.stalls left_in.new left_out.new right.new)
         (B.left_since room.old.base) (B.left_since room.new.base) result }
     ensures database { OnOk result (KeepsDatabase
-        (outside B.database B.faults B.clock B.reads H.files H.faults S.left S.given S.faults K.written K.faults K.stalls room.old)
-        (outside B.database B.faults B.clock B.reads H.files H.faults S.left S.given S.faults K.written K.faults K.stalls room.new)) }
+        (outside B.database B.faults B.clock B.reads H.files H.faults S.left S.given S.faults S.ended K.written K.faults K.stalls room.old)
+        (outside B.database B.faults B.clock B.reads H.files H.faults S.left S.given S.faults S.ended K.written K.faults K.stalls room.new)) }
     ensures later { Later
-        (outside B.database B.faults B.clock B.reads H.files H.faults S.left S.given S.faults K.written K.faults K.stalls room.old)
-        (outside B.database B.faults B.clock B.reads H.files H.faults S.left S.given S.faults K.written K.faults K.stalls room.new) }
+        (outside B.database B.faults B.clock B.reads H.files H.faults S.left S.given S.faults S.ended K.written K.faults K.stalls room.old)
+        (outside B.database B.faults B.clock B.reads H.files H.faults S.left S.given S.faults S.ended K.written K.faults K.stalls room.new) }
     ensures heard { KeepsScript (T.heard stage.old) (T.heard stage.new)
-        (outside B.database B.faults B.clock B.reads H.files H.faults S.left S.given S.faults K.written K.faults K.stalls room.old)
-        (outside B.database B.faults B.clock B.reads H.files H.faults S.left S.given S.faults K.written K.faults K.stalls room.new) }
+        (outside B.database B.faults B.clock B.reads H.files H.faults S.left S.given S.faults S.ended K.written K.faults K.stalls room.old)
+        (outside B.database B.faults B.clock B.reads H.files H.faults S.left S.given S.faults S.ended K.written K.faults K.stalls room.new) }
     // Only the first stage reads the source and writes to the sink.
     ensures ends { (T.place stage.old ≡ 1 → ⊥) → EndsKept (T.heard stage.old) (T.heard stage.new)
-        (outside B.database B.faults B.clock B.reads H.files H.faults S.left S.given S.faults K.written K.faults K.stalls room.old)
-        (outside B.database B.faults B.clock B.reads H.files H.faults S.left S.given S.faults K.written K.faults K.stalls room.new) result }
+        (outside B.database B.faults B.clock B.reads H.files H.faults S.left S.given S.faults S.ended K.written K.faults K.stalls room.old)
+        (outside B.database B.faults B.clock B.reads H.files H.faults S.left S.given S.faults S.ended K.written K.faults K.stalls room.new) result }
     ensures given { CountsHeard (T.heard stage.old) (T.heard stage.new) (S.given room.old.source) (S.given room.new.source) }
     // The script is too long exactly where more of it was read than a script may have.
     ensures within { LoopWithin (T.heard stage.old) (T.heard stage.new) result }
     // No count of the room rose, unless work failed: then only that which its fault names.
     ensures counts { LoopCounts
-        (outside B.database B.faults B.clock B.reads H.files H.faults S.left S.given S.faults K.written K.faults K.stalls room.old)
-        (outside B.database B.faults B.clock B.reads H.files H.faults S.left S.given S.faults K.written K.faults K.stalls room.new) result }
+        (outside B.database B.faults B.clock B.reads H.files H.faults S.left S.given S.faults S.ended K.written K.faults K.stalls room.old)
+        (outside B.database B.faults B.clock B.reads H.files H.faults S.left S.given S.faults S.ended K.written K.faults K.stalls room.new) result }
     // Where each image stood for the database, after Ok each one stands for that of after.
     ensures durable { OnOk result (StaysDurable
-        (outside B.database B.faults B.clock B.reads H.files H.faults S.left S.given S.faults K.written K.faults K.stalls room.old)
-        (outside B.database B.faults B.clock B.reads H.files H.faults S.left S.given S.faults K.written K.faults K.stalls room.new) (B.left_since room.old.base) (B.left_since room.new.base)) }
+        (outside B.database B.faults B.clock B.reads H.files H.faults S.left S.given S.faults S.ended K.written K.faults K.stalls room.old)
+        (outside B.database B.faults B.clock B.reads H.files H.faults S.left S.given S.faults S.ended K.written K.faults K.stalls room.new) (B.left_since room.old.base) (B.left_since room.new.base)) }
     // No stage but the first ends with the status of a script that is too long.
     ensures status { (T.place stage.old ≡ 1 → ⊥) → IfErr result (λ fault. status_of fault ≡ 7 → ⊥) }
     ensures serves { (user : User) → T.serves stage.old user → T.serves stage.new user }

@@ -43,7 +43,7 @@ pub(crate) fn step<T: Stage, I: Source, O: Sink, L: Link, B: Base, H: Shelf, S: 
     ensures done { (past : Past)
         → Goes past (record {
           state = T.state stage.old;
-          outside = outside B.database B.faults B.clock B.reads H.files H.faults S.left S.given S.faults K.written K.faults K.stalls room.old;
+          outside = outside B.database B.faults B.clock B.reads H.files H.faults S.left S.given S.faults S.ended K.written K.faults K.stalls room.old;
           schema = B.schema room.old.base;
           sides = sides I.left I.faults O.written O.faults O.stalls L.left L.written L.faults L.stalls left_in.old left_out.old right.old;
           talk = talk.old;
@@ -51,25 +51,25 @@ pub(crate) fn step<T: Stage, I: Source, O: Sink, L: Link, B: Base, H: Shelf, S: 
         })
         → StepDone (T.serves stage.old) past (record {
           state = T.state stage.old;
-          outside = outside B.database B.faults B.clock B.reads H.files H.faults S.left S.given S.faults K.written K.faults K.stalls room.old;
+          outside = outside B.database B.faults B.clock B.reads H.files H.faults S.left S.given S.faults S.ended K.written K.faults K.stalls room.old;
           schema = B.schema room.old.base;
           sides = sides I.left I.faults O.written O.faults O.stalls L.left L.written L.faults L.stalls left_in.old left_out.old right.old;
           talk = talk.old;
           heard = T.heard stage.old;
         }) (record {
           state = T.state stage.new;
-          outside = outside B.database B.faults B.clock B.reads H.files H.faults S.left S.given S.faults K.written K.faults K.stalls room.new;
+          outside = outside B.database B.faults B.clock B.reads H.files H.faults S.left S.given S.faults S.ended K.written K.faults K.stalls room.new;
           schema = B.schema room.new.base;
           sides = sides I.left I.faults O.written O.faults O.stalls L.left L.written L.faults L.stalls left_in.new left_out.new right.new;
           talk = talk.new;
           heard = T.heard stage.new;
         }) result }
     ensures room { RoomKept (T.place stage.old) (T.heard stage.old) (T.heard stage.new)
-        (outside B.database B.faults B.clock B.reads H.files H.faults S.left S.given S.faults K.written K.faults K.stalls room.old)
-        (outside B.database B.faults B.clock B.reads H.files H.faults S.left S.given S.faults K.written K.faults K.stalls room.new) result }
+        (outside B.database B.faults B.clock B.reads H.files H.faults S.left S.given S.faults S.ended K.written K.faults K.stalls room.old)
+        (outside B.database B.faults B.clock B.reads H.files H.faults S.left S.given S.faults S.ended K.written K.faults K.stalls room.new) result }
     ensures crash { StepCrash (T.serves stage.old) (T.state stage.old) (T.state stage.new)
-        (outside B.database B.faults B.clock B.reads H.files H.faults S.left S.given S.faults K.written K.faults K.stalls room.old)
-        (outside B.database B.faults B.clock B.reads H.files H.faults S.left S.given S.faults K.written K.faults K.stalls room.new) (B.left_since room.old.base) (B.left_since room.new.base) (B.schema room.new.base) result }
+        (outside B.database B.faults B.clock B.reads H.files H.faults S.left S.given S.faults S.ended K.written K.faults K.stalls room.old)
+        (outside B.database B.faults B.clock B.reads H.files H.faults S.left S.given S.faults S.ended K.written K.faults K.stalls room.new) (B.left_since room.old.base) (B.left_since room.new.base) (B.schema room.new.base) result }
     ensures serves { (user : User) → T.serves stage.old user → T.serves stage.new user }
     ensures place { T.place stage.new ≡ T.place stage.old }
 {

@@ -1,6 +1,6 @@
 //! One step of the network.
 
-ghost use Rattle.std.specs.Prelude.{◌≡◌, ◌≤◌, IfOk, IsErrOf, OnErr, OnOk};
+ghost use Rattle.std.specs.Prelude.{◌≡◌, ◌≤◌, IfOk, IsErrOf, IsOk, OnErr, OnOk};
 ghost use Rattle.network_meaning.specs.Calls.{KeepsAll, Moves, join, stage_number};
 ghost use Rattle.network_meaning.specs.LocalSteps.{Room as NetworkRoom, Want.work};
 ghost use Rattle.network_meaning.specs.MessageNetwork.{StageNumber.first, StageNumber.second, StageNumber.third, StageNumber.fourth};
@@ -54,67 +54,68 @@ pub fn net_step<A1: Stage, A2: Stage, A3: Stage, A4: Stage, B: Base, H: Shelf, S
     requires high { k ≤ 4 }
     ensures blocked { (r : NetworkRoom quel_sorts) → IfOk result (λ moved. is_stuck net.old.capacity (stage_number k) (join (shape A1.state A2.state A3.state A4.state net.old) r) ≡ was_blocked moved) }
     ensures steps { (user : User) → AllServe A1.serves A2.serves A3.serves A4.serves net.old user → IfOk result (λ moved. Moves (quel user) net.old.capacity (stage_number k) (was_blocked moved)
-        (seen (shape A1.state A2.state A3.state A4.state net.old) (outside B.database B.faults B.clock B.reads H.files H.faults S.left S.given S.faults K.written K.faults K.stalls room.old))
-        (seen (shape A1.state A2.state A3.state A4.state net.new) (outside B.database B.faults B.clock B.reads H.files H.faults S.left S.given S.faults K.written K.faults K.stalls room.new))) }
+        (seen (shape A1.state A2.state A3.state A4.state net.old) (outside B.database B.faults B.clock B.reads H.files H.faults S.left S.given S.faults S.ended K.written K.faults K.stalls room.old))
+        (seen (shape A1.state A2.state A3.state A4.state net.new) (outside B.database B.faults B.clock B.reads H.files H.faults S.left S.given S.faults S.ended K.written K.faults K.stalls room.new))) }
     ensures failed { (user : User) → AllServe A1.serves A2.serves A3.serves A4.serves net.old user → OnErr result (WroteFront (quel user)
-        (seen (shape A1.state A2.state A3.state A4.state net.old) (outside B.database B.faults B.clock B.reads H.files H.faults S.left S.given S.faults K.written K.faults K.stalls room.old))
-        (outside B.database B.faults B.clock B.reads H.files H.faults S.left S.given S.faults K.written K.faults K.stalls room.new)) }
+        (seen (shape A1.state A2.state A3.state A4.state net.old) (outside B.database B.faults B.clock B.reads H.files H.faults S.left S.given S.faults S.ended K.written K.faults K.stalls room.old))
+        (outside B.database B.faults B.clock B.reads H.files H.faults S.left S.given S.faults S.ended K.written K.faults K.stalls room.new)) }
     ensures part { (user : User) → AllServe A1.serves A2.serves A3.serves A4.serves net.old user → OnErr result (FailedStep (quel user) (state_at (shape A1.state A2.state A3.state A4.state net.old) (stage_number k))
-        (outside B.database B.faults B.clock B.reads H.files H.faults S.left S.given S.faults K.written K.faults K.stalls room.old)
-        (outside B.database B.faults B.clock B.reads H.files H.faults S.left S.given S.faults K.written K.faults K.stalls room.new)) }
+        (outside B.database B.faults B.clock B.reads H.files H.faults S.left S.given S.faults S.ended K.written K.faults K.stalls room.old)
+        (outside B.database B.faults B.clock B.reads H.files H.faults S.left S.given S.faults S.ended K.written K.faults K.stalls room.new)) }
     ensures unlawful { (user : User) → AllServe A1.serves A2.serves A3.serves A4.serves net.old user → IsErrOf result WorkFault.Unlawful → MayNotStep (quel user) (stage_number k) (shape A1.state A2.state A3.state A4.state net.old)
-        (outside B.database B.faults B.clock B.reads H.files H.faults S.left S.given S.faults K.written K.faults K.stalls room.old) }
+        (outside B.database B.faults B.clock B.reads H.files H.faults S.left S.given S.faults S.ended K.written K.faults K.stalls room.old) }
     ensures untouched { (want (state_at (shape A1.state A2.state A3.state A4.state net.old) (stage_number k)) ≡ work → ⊥) →
-        outside B.database B.faults B.clock B.reads H.files H.faults S.left S.given S.faults K.written K.faults K.stalls room.new ≡ outside B.database B.faults B.clock B.reads H.files H.faults S.left S.given S.faults K.written K.faults K.stalls room.old }
+        outside B.database B.faults B.clock B.reads H.files H.faults S.left S.given S.faults S.ended K.written K.faults K.stalls room.new ≡ outside B.database B.faults B.clock B.reads H.files H.faults S.left S.given S.faults S.ended K.written K.faults K.stalls room.old }
     ensures cause { IsCaused (heard_by A1.heard A2.heard A3.heard A4.heard net.old)
-        (outside B.database B.faults B.clock B.reads H.files H.faults S.left S.given S.faults K.written K.faults K.stalls room.old)
-        (outside B.database B.faults B.clock B.reads H.files H.faults S.left S.given S.faults K.written K.faults K.stalls room.new) result }
+        (outside B.database B.faults B.clock B.reads H.files H.faults S.left S.given S.faults S.ended K.written K.faults K.stalls room.old)
+        (outside B.database B.faults B.clock B.reads H.files H.faults S.left S.given S.faults S.ended K.written K.faults K.stalls room.new) result }
     ensures database { OnOk result (KeepsDatabase
-        (outside B.database B.faults B.clock B.reads H.files H.faults S.left S.given S.faults K.written K.faults K.stalls room.old)
-        (outside B.database B.faults B.clock B.reads H.files H.faults S.left S.given S.faults K.written K.faults K.stalls room.new)) }
+        (outside B.database B.faults B.clock B.reads H.files H.faults S.left S.given S.faults S.ended K.written K.faults K.stalls room.old)
+        (outside B.database B.faults B.clock B.reads H.files H.faults S.left S.given S.faults S.ended K.written K.faults K.stalls room.new)) }
     ensures later { Later
-        (outside B.database B.faults B.clock B.reads H.files H.faults S.left S.given S.faults K.written K.faults K.stalls room.old)
-        (outside B.database B.faults B.clock B.reads H.files H.faults S.left S.given S.faults K.written K.faults K.stalls room.new) }
+        (outside B.database B.faults B.clock B.reads H.files H.faults S.left S.given S.faults S.ended K.written K.faults K.stalls room.old)
+        (outside B.database B.faults B.clock B.reads H.files H.faults S.left S.given S.faults S.ended K.written K.faults K.stalls room.new) }
     ensures counts { CountsOnly
-        (outside B.database B.faults B.clock B.reads H.files H.faults S.left S.given S.faults K.written K.faults K.stalls room.old)
-        (outside B.database B.faults B.clock B.reads H.files H.faults S.left S.given S.faults K.written K.faults K.stalls room.new) result }
+        (outside B.database B.faults B.clock B.reads H.files H.faults S.left S.given S.faults S.ended K.written K.faults K.stalls room.old)
+        (outside B.database B.faults B.clock B.reads H.files H.faults S.left S.given S.faults S.ended K.written K.faults K.stalls room.new) result }
     // Where reading failed nothing was written or stored.
     ensures spares { Spares
-        (outside B.database B.faults B.clock B.reads H.files H.faults S.left S.given S.faults K.written K.faults K.stalls room.old)
-        (outside B.database B.faults B.clock B.reads H.files H.faults S.left S.given S.faults K.written K.faults K.stalls room.new) result }
-    // At most one line of the script was read.
-    ensures reads { ReadsOn (heard_by A1.heard A2.heard A3.heard A4.heard net.old) (heard_by A1.heard A2.heard A3.heard A4.heard net.new)
-        (outside B.database B.faults B.clock B.reads H.files H.faults S.left S.given S.faults K.written K.faults K.stalls room.old)
-        (outside B.database B.faults B.clock B.reads H.files H.faults S.left S.given S.faults K.written K.faults K.stalls room.new) (IsErrOf result WorkFault.Source) }
+        (outside B.database B.faults B.clock B.reads H.files H.faults S.left S.given S.faults S.ended K.written K.faults K.stalls room.old)
+        (outside B.database B.faults B.clock B.reads H.files H.faults S.left S.given S.faults S.ended K.written K.faults K.stalls room.new) result }
+    // At most one line of the script was read, and only where the monitor reads the script itself; and the
+    // end of the source is seen.
+    ensures reads { ReadsOn (state_at (shape A1.state A2.state A3.state A4.state net.old) (stage_number k)).mode (heard_by A1.heard A2.heard A3.heard A4.heard net.old) (heard_by A1.heard A2.heard A3.heard A4.heard net.new)
+        (outside B.database B.faults B.clock B.reads H.files H.faults S.left S.given S.faults S.ended K.written K.faults K.stalls room.old)
+        (outside B.database B.faults B.clock B.reads H.files H.faults S.left S.given S.faults S.ended K.written K.faults K.stalls room.new) (IsErrOf result WorkFault.Source) (IsOk result) }
     // The script is too long exactly where the first stage read more of it than a script may have.
     ensures within { AreNumbered A1.place A2.place A3.place A4.place net.old → Within (A1.heard net.old.one) (A1.heard net.new.one) result }
     // Only the first stage reads the source and writes to the sink.
     ensures ends { AreNumbered A1.place A2.place A3.place A4.place net.old → (stage_number k ≡ first → ⊥) → LeavesEnds (heard_by A1.heard A2.heard A3.heard A4.heard net.old) (heard_by A1.heard A2.heard A3.heard A4.heard net.new)
-        (outside B.database B.faults B.clock B.reads H.files H.faults S.left S.given S.faults K.written K.faults K.stalls room.old)
-        (outside B.database B.faults B.clock B.reads H.files H.faults S.left S.given S.faults K.written K.faults K.stalls room.new) result }
+        (outside B.database B.faults B.clock B.reads H.files H.faults S.left S.given S.faults S.ended K.written K.faults K.stalls room.old)
+        (outside B.database B.faults B.clock B.reads H.files H.faults S.left S.given S.faults S.ended K.written K.faults K.stalls room.new) result }
     ensures serve { (user : User) → AllServe A1.serves A2.serves A3.serves A4.serves net.old user → AllServe A1.serves A2.serves A3.serves A4.serves net.new user }
     ensures numbers { AreNumbered A1.place A2.place A3.place A4.place net.old → AreNumbered A1.place A2.place A3.place A4.place net.new }
     ensures capacity { net.new.capacity ≡ net.old.capacity }
     ensures equation { (user : User) → AllServe A1.serves A2.serves A3.serves A4.serves net.old user → OnOk result (KeepsAll (quel user)
-        (seen (shape A1.state A2.state A3.state A4.state net.old) (outside B.database B.faults B.clock B.reads H.files H.faults S.left S.given S.faults K.written K.faults K.stalls room.old))
-        (seen (shape A1.state A2.state A3.state A4.state net.new) (outside B.database B.faults B.clock B.reads H.files H.faults S.left S.given S.faults K.written K.faults K.stalls room.new))) }
+        (seen (shape A1.state A2.state A3.state A4.state net.old) (outside B.database B.faults B.clock B.reads H.files H.faults S.left S.given S.faults S.ended K.written K.faults K.stalls room.old))
+        (seen (shape A1.state A2.state A3.state A4.state net.new) (outside B.database B.faults B.clock B.reads H.files H.faults S.left S.given S.faults S.ended K.written K.faults K.stalls room.new))) }
     ensures finishes { (user : User) → AllServe A1.serves A2.serves A3.serves A4.serves net.old user → OnOk result (FinishesInOrder (quel user)
-        (seen (shape A1.state A2.state A3.state A4.state net.old) (outside B.database B.faults B.clock B.reads H.files H.faults S.left S.given S.faults K.written K.faults K.stalls room.old))
-        (seen (shape A1.state A2.state A3.state A4.state net.new) (outside B.database B.faults B.clock B.reads H.files H.faults S.left S.given S.faults K.written K.faults K.stalls room.new))) }
+        (seen (shape A1.state A2.state A3.state A4.state net.old) (outside B.database B.faults B.clock B.reads H.files H.faults S.left S.given S.faults S.ended K.written K.faults K.stalls room.old))
+        (seen (shape A1.state A2.state A3.state A4.state net.new) (outside B.database B.faults B.clock B.reads H.files H.faults S.left S.given S.faults S.ended K.written K.faults K.stalls room.new))) }
     ensures lawful { (user : User) → AllServe A1.serves A2.serves A3.serves A4.serves net.old user → IsErrOf result WorkFault.Unlawful → IsDisorderly (quel user)
-        (seen (shape A1.state A2.state A3.state A4.state net.old) (outside B.database B.faults B.clock B.reads H.files H.faults S.left S.given S.faults K.written K.faults K.stalls room.old)) }
+        (seen (shape A1.state A2.state A3.state A4.state net.old) (outside B.database B.faults B.clock B.reads H.files H.faults S.left S.given S.faults S.ended K.written K.faults K.stalls room.old)) }
     // Where the room is known, a crash leaves what it might leave before, or the database that this step leaves.
     ensures crash { (user : User) → AllServe A1.serves A2.serves A3.serves A4.serves net.old user → StepLeaves (quel user) (state_at (shape A1.state A2.state A3.state A4.state net.old) (stage_number k))
-        (outside B.database B.faults B.clock B.reads H.files H.faults S.left S.given S.faults K.written K.faults K.stalls room.old)
-        (outside B.database B.faults B.clock B.reads H.files H.faults S.left S.given S.faults K.written K.faults K.stalls room.new) (B.left_since room.old.base) (B.left_since room.new.base) }
+        (outside B.database B.faults B.clock B.reads H.files H.faults S.left S.given S.faults S.ended K.written K.faults K.stalls room.old)
+        (outside B.database B.faults B.clock B.reads H.files H.faults S.left S.given S.faults S.ended K.written K.faults K.stalls room.new) (B.left_since room.old.base) (B.left_since room.new.base) }
     // Where each image stood for the database, after Ok each one stands for that of after.
     ensures durable { OnOk result (StaysDurable
-        (outside B.database B.faults B.clock B.reads H.files H.faults S.left S.given S.faults K.written K.faults K.stalls room.old)
-        (outside B.database B.faults B.clock B.reads H.files H.faults S.left S.given S.faults K.written K.faults K.stalls room.new) (B.left_since room.old.base) (B.left_since room.new.base)) }
+        (outside B.database B.faults B.clock B.reads H.files H.faults S.left S.given S.faults S.ended K.written K.faults K.stalls room.old)
+        (outside B.database B.faults B.clock B.reads H.files H.faults S.left S.given S.faults S.ended K.written K.faults K.stalls room.new) (B.left_since room.old.base) (B.left_since room.new.base)) }
     // A stage without the turn neither reads the disk nor writes it.
     ensures quiet { QuietWithout (state_at (shape A1.state A2.state A3.state A4.state net.old) (stage_number k))
-        (outside B.database B.faults B.clock B.reads H.files H.faults S.left S.given S.faults K.written K.faults K.stalls room.old)
-        (outside B.database B.faults B.clock B.reads H.files H.faults S.left S.given S.faults K.written K.faults K.stalls room.new) }
+        (outside B.database B.faults B.clock B.reads H.files H.faults S.left S.given S.faults S.ended K.written K.faults K.stalls room.old)
+        (outside B.database B.faults B.clock B.reads H.files H.faults S.left S.given S.faults S.ended K.written K.faults K.stalls room.new) }
     // A stage that worked and gave the turn away has handed the base over, and asked nothing of it since.
     ensures handed { OnOk result (HandsOver (state_at (shape A1.state A2.state A3.state A4.state net.old) (stage_number k)) (state_at (shape A1.state A2.state A3.state A4.state net.new) (stage_number k)) (B.schema room.new.base) (B.database room.new.base)) }
 {
@@ -131,14 +132,14 @@ fn step_of<A1: Stage, A2: Stage, A3: Stage, A4: Stage, B: Base, H: Shelf, S: Sou
     requires low { 1 ≤ k }
     requires high { k ≤ 4 }
     ensures done { StepDone net.old.capacity (stage_number k) (shape A1.state A2.state A3.state A4.state net.old) (shape A1.state A2.state A3.state A4.state net.new)
-        (outside B.database B.faults B.clock B.reads H.files H.faults S.left S.given S.faults K.written K.faults K.stalls room.old)
-        (outside B.database B.faults B.clock B.reads H.files H.faults S.left S.given S.faults K.written K.faults K.stalls room.new)
+        (outside B.database B.faults B.clock B.reads H.files H.faults S.left S.given S.faults S.ended K.written K.faults K.stalls room.old)
+        (outside B.database B.faults B.clock B.reads H.files H.faults S.left S.given S.faults S.ended K.written K.faults K.stalls room.new)
         (heard_by A1.heard A2.heard A3.heard A4.heard net.old) (heard_by A1.heard A2.heard A3.heard A4.heard net.new) (A1.heard net.old.one) (A1.heard net.new.one)
         (AllServe A1.serves A2.serves A3.serves A4.serves net.old) (AllServe A1.serves A2.serves A3.serves A4.serves net.new)
         (AreNumbered A1.place A2.place A3.place A4.place net.old) (AreNumbered A1.place A2.place A3.place A4.place net.new) result }
     ensures crash { StepCrash (AllServe A1.serves A2.serves A3.serves A4.serves net.old) (state_at (shape A1.state A2.state A3.state A4.state net.old) (stage_number k)) (state_at (shape A1.state A2.state A3.state A4.state net.new) (stage_number k))
-        (outside B.database B.faults B.clock B.reads H.files H.faults S.left S.given S.faults K.written K.faults K.stalls room.old)
-        (outside B.database B.faults B.clock B.reads H.files H.faults S.left S.given S.faults K.written K.faults K.stalls room.new) (B.left_since room.old.base) (B.left_since room.new.base) (B.schema room.new.base) result }
+        (outside B.database B.faults B.clock B.reads H.files H.faults S.left S.given S.faults S.ended K.written K.faults K.stalls room.old)
+        (outside B.database B.faults B.clock B.reads H.files H.faults S.left S.given S.faults S.ended K.written K.faults K.stalls room.new) (B.left_since room.old.base) (B.left_since room.new.base) (B.schema room.new.base) result }
     ensures capacity { net.new.capacity ≡ net.old.capacity }
 {
     match k {
@@ -156,14 +157,14 @@ fn step_first<A1: Stage, A2: Stage, A3: Stage, A4: Stage, B: Base, H: Shelf, S: 
     room: &mut Room<B, H, S, K>,
 ) -> Result<Moved, WorkFault>
     ensures done { StepDone net.old.capacity first (shape A1.state A2.state A3.state A4.state net.old) (shape A1.state A2.state A3.state A4.state net.new)
-        (outside B.database B.faults B.clock B.reads H.files H.faults S.left S.given S.faults K.written K.faults K.stalls room.old)
-        (outside B.database B.faults B.clock B.reads H.files H.faults S.left S.given S.faults K.written K.faults K.stalls room.new)
+        (outside B.database B.faults B.clock B.reads H.files H.faults S.left S.given S.faults S.ended K.written K.faults K.stalls room.old)
+        (outside B.database B.faults B.clock B.reads H.files H.faults S.left S.given S.faults S.ended K.written K.faults K.stalls room.new)
         (heard_by A1.heard A2.heard A3.heard A4.heard net.old) (heard_by A1.heard A2.heard A3.heard A4.heard net.new) (A1.heard net.old.one) (A1.heard net.new.one)
         (AllServe A1.serves A2.serves A3.serves A4.serves net.old) (AllServe A1.serves A2.serves A3.serves A4.serves net.new)
         (AreNumbered A1.place A2.place A3.place A4.place net.old) (AreNumbered A1.place A2.place A3.place A4.place net.new) result }
     ensures crash { StepCrash (AllServe A1.serves A2.serves A3.serves A4.serves net.old) (state_at (shape A1.state A2.state A3.state A4.state net.old) first) (state_at (shape A1.state A2.state A3.state A4.state net.new) first)
-        (outside B.database B.faults B.clock B.reads H.files H.faults S.left S.given S.faults K.written K.faults K.stalls room.old)
-        (outside B.database B.faults B.clock B.reads H.files H.faults S.left S.given S.faults K.written K.faults K.stalls room.new) (B.left_since room.old.base) (B.left_since room.new.base) (B.schema room.new.base) result }
+        (outside B.database B.faults B.clock B.reads H.files H.faults S.left S.given S.faults S.ended K.written K.faults K.stalls room.old)
+        (outside B.database B.faults B.clock B.reads H.files H.faults S.left S.given S.faults S.ended K.written K.faults K.stalls room.new) (B.left_since room.old.base) (B.left_since room.new.base) (B.schema room.new.base) result }
     ensures capacity { net.new.capacity ≡ net.old.capacity }
 {
     let mut left_in = VecDeque::new(alloc);
@@ -188,14 +189,14 @@ fn step_second<A1: Stage, A2: Stage, A3: Stage, A4: Stage, B: Base, H: Shelf, S:
     room: &mut Room<B, H, S, K>,
 ) -> Result<Moved, WorkFault>
     ensures done { StepDone net.old.capacity second (shape A1.state A2.state A3.state A4.state net.old) (shape A1.state A2.state A3.state A4.state net.new)
-        (outside B.database B.faults B.clock B.reads H.files H.faults S.left S.given S.faults K.written K.faults K.stalls room.old)
-        (outside B.database B.faults B.clock B.reads H.files H.faults S.left S.given S.faults K.written K.faults K.stalls room.new)
+        (outside B.database B.faults B.clock B.reads H.files H.faults S.left S.given S.faults S.ended K.written K.faults K.stalls room.old)
+        (outside B.database B.faults B.clock B.reads H.files H.faults S.left S.given S.faults S.ended K.written K.faults K.stalls room.new)
         (heard_by A1.heard A2.heard A3.heard A4.heard net.old) (heard_by A1.heard A2.heard A3.heard A4.heard net.new) (A1.heard net.old.one) (A1.heard net.new.one)
         (AllServe A1.serves A2.serves A3.serves A4.serves net.old) (AllServe A1.serves A2.serves A3.serves A4.serves net.new)
         (AreNumbered A1.place A2.place A3.place A4.place net.old) (AreNumbered A1.place A2.place A3.place A4.place net.new) result }
     ensures crash { StepCrash (AllServe A1.serves A2.serves A3.serves A4.serves net.old) (state_at (shape A1.state A2.state A3.state A4.state net.old) second) (state_at (shape A1.state A2.state A3.state A4.state net.new) second)
-        (outside B.database B.faults B.clock B.reads H.files H.faults S.left S.given S.faults K.written K.faults K.stalls room.old)
-        (outside B.database B.faults B.clock B.reads H.files H.faults S.left S.given S.faults K.written K.faults K.stalls room.new) (B.left_since room.old.base) (B.left_since room.new.base) (B.schema room.new.base) result }
+        (outside B.database B.faults B.clock B.reads H.files H.faults S.left S.given S.faults S.ended K.written K.faults K.stalls room.old)
+        (outside B.database B.faults B.clock B.reads H.files H.faults S.left S.given S.faults S.ended K.written K.faults K.stalls room.new) (B.left_since room.old.base) (B.left_since room.new.base) (B.schema room.new.base) result }
     ensures capacity { net.new.capacity ≡ net.old.capacity }
 {
     step_stage(
@@ -218,14 +219,14 @@ fn step_third<A1: Stage, A2: Stage, A3: Stage, A4: Stage, B: Base, H: Shelf, S: 
     room: &mut Room<B, H, S, K>,
 ) -> Result<Moved, WorkFault>
     ensures done { StepDone net.old.capacity third (shape A1.state A2.state A3.state A4.state net.old) (shape A1.state A2.state A3.state A4.state net.new)
-        (outside B.database B.faults B.clock B.reads H.files H.faults S.left S.given S.faults K.written K.faults K.stalls room.old)
-        (outside B.database B.faults B.clock B.reads H.files H.faults S.left S.given S.faults K.written K.faults K.stalls room.new)
+        (outside B.database B.faults B.clock B.reads H.files H.faults S.left S.given S.faults S.ended K.written K.faults K.stalls room.old)
+        (outside B.database B.faults B.clock B.reads H.files H.faults S.left S.given S.faults S.ended K.written K.faults K.stalls room.new)
         (heard_by A1.heard A2.heard A3.heard A4.heard net.old) (heard_by A1.heard A2.heard A3.heard A4.heard net.new) (A1.heard net.old.one) (A1.heard net.new.one)
         (AllServe A1.serves A2.serves A3.serves A4.serves net.old) (AllServe A1.serves A2.serves A3.serves A4.serves net.new)
         (AreNumbered A1.place A2.place A3.place A4.place net.old) (AreNumbered A1.place A2.place A3.place A4.place net.new) result }
     ensures crash { StepCrash (AllServe A1.serves A2.serves A3.serves A4.serves net.old) (state_at (shape A1.state A2.state A3.state A4.state net.old) third) (state_at (shape A1.state A2.state A3.state A4.state net.new) third)
-        (outside B.database B.faults B.clock B.reads H.files H.faults S.left S.given S.faults K.written K.faults K.stalls room.old)
-        (outside B.database B.faults B.clock B.reads H.files H.faults S.left S.given S.faults K.written K.faults K.stalls room.new) (B.left_since room.old.base) (B.left_since room.new.base) (B.schema room.new.base) result }
+        (outside B.database B.faults B.clock B.reads H.files H.faults S.left S.given S.faults S.ended K.written K.faults K.stalls room.old)
+        (outside B.database B.faults B.clock B.reads H.files H.faults S.left S.given S.faults S.ended K.written K.faults K.stalls room.new) (B.left_since room.old.base) (B.left_since room.new.base) (B.schema room.new.base) result }
     ensures capacity { net.new.capacity ≡ net.old.capacity }
 {
     step_stage(
@@ -248,14 +249,14 @@ fn step_fourth<A1: Stage, A2: Stage, A3: Stage, A4: Stage, B: Base, H: Shelf, S:
     room: &mut Room<B, H, S, K>,
 ) -> Result<Moved, WorkFault>
     ensures done { StepDone net.old.capacity fourth (shape A1.state A2.state A3.state A4.state net.old) (shape A1.state A2.state A3.state A4.state net.new)
-        (outside B.database B.faults B.clock B.reads H.files H.faults S.left S.given S.faults K.written K.faults K.stalls room.old)
-        (outside B.database B.faults B.clock B.reads H.files H.faults S.left S.given S.faults K.written K.faults K.stalls room.new)
+        (outside B.database B.faults B.clock B.reads H.files H.faults S.left S.given S.faults S.ended K.written K.faults K.stalls room.old)
+        (outside B.database B.faults B.clock B.reads H.files H.faults S.left S.given S.faults S.ended K.written K.faults K.stalls room.new)
         (heard_by A1.heard A2.heard A3.heard A4.heard net.old) (heard_by A1.heard A2.heard A3.heard A4.heard net.new) (A1.heard net.old.one) (A1.heard net.new.one)
         (AllServe A1.serves A2.serves A3.serves A4.serves net.old) (AllServe A1.serves A2.serves A3.serves A4.serves net.new)
         (AreNumbered A1.place A2.place A3.place A4.place net.old) (AreNumbered A1.place A2.place A3.place A4.place net.new) result }
     ensures crash { StepCrash (AllServe A1.serves A2.serves A3.serves A4.serves net.old) (state_at (shape A1.state A2.state A3.state A4.state net.old) fourth) (state_at (shape A1.state A2.state A3.state A4.state net.new) fourth)
-        (outside B.database B.faults B.clock B.reads H.files H.faults S.left S.given S.faults K.written K.faults K.stalls room.old)
-        (outside B.database B.faults B.clock B.reads H.files H.faults S.left S.given S.faults K.written K.faults K.stalls room.new) (B.left_since room.old.base) (B.left_since room.new.base) (B.schema room.new.base) result }
+        (outside B.database B.faults B.clock B.reads H.files H.faults S.left S.given S.faults S.ended K.written K.faults K.stalls room.old)
+        (outside B.database B.faults B.clock B.reads H.files H.faults S.left S.given S.faults S.ended K.written K.faults K.stalls room.new) (B.left_since room.old.base) (B.left_since room.new.base) (B.schema room.new.base) result }
     ensures capacity { net.new.capacity ≡ net.old.capacity }
 {
     let mut right_out = VecDeque::new(alloc);

@@ -26,36 +26,36 @@ pub(crate) fn work_on<T: Stage, B: Base, H: Shelf, S: Source, K: Sink>(
 ) -> Result<Moved, LoopFault>
     requires { IsToWork (T.state stage.old) }
     ensures worked { Worked (T.serves stage.old) (T.heard stage.old) (T.state stage.old) (T.state stage.new)
-        (outside B.database B.faults B.clock B.reads H.files H.faults S.left S.given S.faults K.written K.faults K.stalls room.old)
-        (outside B.database B.faults B.clock B.reads H.files H.faults S.left S.given S.faults K.written K.faults K.stalls room.new) (B.schema room.new.base) last result }
+        (outside B.database B.faults B.clock B.reads H.files H.faults S.left S.given S.faults S.ended K.written K.faults K.stalls room.old)
+        (outside B.database B.faults B.clock B.reads H.files H.faults S.left S.given S.faults S.ended K.written K.faults K.stalls room.new) (B.schema room.new.base) last result }
     ensures database { OnOk result (KeepsDatabase
-        (outside B.database B.faults B.clock B.reads H.files H.faults S.left S.given S.faults K.written K.faults K.stalls room.old)
-        (outside B.database B.faults B.clock B.reads H.files H.faults S.left S.given S.faults K.written K.faults K.stalls room.new)) }
+        (outside B.database B.faults B.clock B.reads H.files H.faults S.left S.given S.faults S.ended K.written K.faults K.stalls room.old)
+        (outside B.database B.faults B.clock B.reads H.files H.faults S.left S.given S.faults S.ended K.written K.faults K.stalls room.new)) }
     ensures later { Later
-        (outside B.database B.faults B.clock B.reads H.files H.faults S.left S.given S.faults K.written K.faults K.stalls room.old)
-        (outside B.database B.faults B.clock B.reads H.files H.faults S.left S.given S.faults K.written K.faults K.stalls room.new) }
+        (outside B.database B.faults B.clock B.reads H.files H.faults S.left S.given S.faults S.ended K.written K.faults K.stalls room.old)
+        (outside B.database B.faults B.clock B.reads H.files H.faults S.left S.given S.faults S.ended K.written K.faults K.stalls room.new) }
     ensures heard { KeepsScript (T.heard stage.old) (T.heard stage.new)
-        (outside B.database B.faults B.clock B.reads H.files H.faults S.left S.given S.faults K.written K.faults K.stalls room.old)
-        (outside B.database B.faults B.clock B.reads H.files H.faults S.left S.given S.faults K.written K.faults K.stalls room.new) }
+        (outside B.database B.faults B.clock B.reads H.files H.faults S.left S.given S.faults S.ended K.written K.faults K.stalls room.old)
+        (outside B.database B.faults B.clock B.reads H.files H.faults S.left S.given S.faults S.ended K.written K.faults K.stalls room.new) }
     // Only the first stage reads the source and writes to the sink.
     ensures ends { (T.place stage.old ≡ 1 → ⊥) → EndsKept (T.heard stage.old) (T.heard stage.new)
-        (outside B.database B.faults B.clock B.reads H.files H.faults S.left S.given S.faults K.written K.faults K.stalls room.old)
-        (outside B.database B.faults B.clock B.reads H.files H.faults S.left S.given S.faults K.written K.faults K.stalls room.new) result }
+        (outside B.database B.faults B.clock B.reads H.files H.faults S.left S.given S.faults S.ended K.written K.faults K.stalls room.old)
+        (outside B.database B.faults B.clock B.reads H.files H.faults S.left S.given S.faults S.ended K.written K.faults K.stalls room.new) result }
     ensures given { CountsHeard (T.heard stage.old) (T.heard stage.new) (S.given room.old.source) (S.given room.new.source) }
     ensures within { LoopWithin (T.heard stage.old) (T.heard stage.new) result }
     ensures counts { LoopCounts
-        (outside B.database B.faults B.clock B.reads H.files H.faults S.left S.given S.faults K.written K.faults K.stalls room.old)
-        (outside B.database B.faults B.clock B.reads H.files H.faults S.left S.given S.faults K.written K.faults K.stalls room.new) result }
+        (outside B.database B.faults B.clock B.reads H.files H.faults S.left S.given S.faults S.ended K.written K.faults K.stalls room.old)
+        (outside B.database B.faults B.clock B.reads H.files H.faults S.left S.given S.faults S.ended K.written K.faults K.stalls room.new) result }
     ensures handed { OnOk result (HandsOver (T.state stage.old) (T.state stage.new) (B.schema room.new.base) (B.database room.new.base)) }
     ensures crash { (user : User) → T.serves stage.old user → WorkLeaves (quel user) (T.state stage.old).mode
-        (outside B.database B.faults B.clock B.reads H.files H.faults S.left S.given S.faults K.written K.faults K.stalls room.old)
-        (outside B.database B.faults B.clock B.reads H.files H.faults S.left S.given S.faults K.written K.faults K.stalls room.new) (B.left_since room.old.base) (B.left_since room.new.base) }
+        (outside B.database B.faults B.clock B.reads H.files H.faults S.left S.given S.faults S.ended K.written K.faults K.stalls room.old)
+        (outside B.database B.faults B.clock B.reads H.files H.faults S.left S.given S.faults S.ended K.written K.faults K.stalls room.new) (B.left_since room.old.base) (B.left_since room.new.base) }
     ensures durable { OnOk result (StaysDurable
-        (outside B.database B.faults B.clock B.reads H.files H.faults S.left S.given S.faults K.written K.faults K.stalls room.old)
-        (outside B.database B.faults B.clock B.reads H.files H.faults S.left S.given S.faults K.written K.faults K.stalls room.new) (B.left_since room.old.base) (B.left_since room.new.base)) }
+        (outside B.database B.faults B.clock B.reads H.files H.faults S.left S.given S.faults S.ended K.written K.faults K.stalls room.old)
+        (outside B.database B.faults B.clock B.reads H.files H.faults S.left S.given S.faults S.ended K.written K.faults K.stalls room.new) (B.left_since room.old.base) (B.left_since room.new.base)) }
     ensures quiet { QuietWithout (T.state stage.old)
-        (outside B.database B.faults B.clock B.reads H.files H.faults S.left S.given S.faults K.written K.faults K.stalls room.old)
-        (outside B.database B.faults B.clock B.reads H.files H.faults S.left S.given S.faults K.written K.faults K.stalls room.new) }
+        (outside B.database B.faults B.clock B.reads H.files H.faults S.left S.given S.faults S.ended K.written K.faults K.stalls room.old)
+        (outside B.database B.faults B.clock B.reads H.files H.faults S.left S.given S.faults S.ended K.written K.faults K.stalls room.new) }
     ensures serves { (user : User) → T.serves stage.old user → T.serves stage.new user }
     ensures place { T.place stage.new ≡ T.place stage.old }
 {

@@ -14,7 +14,7 @@ steps-init g c = record {
   serves = λ user x. x;
   place = refl;
   room = room_begins _ _ _;
-  durable = durable_same (outside g.B.Base.database g.B.Base.faults g.B.Base.clock g.B.Base.reads g.H.Shelf.files g.H.Shelf.faults g.S.Source.left g.S.Source.given g.S.Source.faults g.K.Sink.written g.K.Sink.faults g.K.Sink.stalls c.args.room.now) (g.B.Base.left_since c.args.room.now.base);
+  durable = durable_same (outside g.B.Base.database g.B.Base.faults g.B.Base.clock g.B.Base.reads g.H.Shelf.files g.H.Shelf.faults g.S.Source.left g.S.Source.given g.S.Source.faults g.S.Source.ended g.K.Sink.written g.K.Sink.faults g.K.Sink.stalls c.args.room.now) (g.B.Base.left_since c.args.room.now.base);
 }
 
 pub returns-in_err-step-clause-done : goal.returns-in_err-step-clause-done
@@ -33,9 +33,9 @@ steps-preserved g c =
       place = c.in_ok-step.ensures.place ∙ c.steps.invariant.place;
       room = room_on _ _ _ _ _ _ _ _ c.in_ok-step.field-0 c.steps.invariant.place c.steps.invariant.room c.in_ok-step.ensures.room;
       durable = durable_more
-          (outside g.B.Base.database g.B.Base.faults g.B.Base.clock g.B.Base.reads g.H.Shelf.files g.H.Shelf.faults g.S.Source.left g.S.Source.given g.S.Source.faults g.K.Sink.written g.K.Sink.faults g.K.Sink.stalls c.args.room.now)
-          (outside g.B.Base.database g.B.Base.faults g.B.Base.clock g.B.Base.reads g.H.Shelf.files g.H.Shelf.faults g.S.Source.left g.S.Source.given g.S.Source.faults g.K.Sink.written g.K.Sink.faults g.K.Sink.stalls c.steps.room)
-          (outside g.B.Base.database g.B.Base.faults g.B.Base.clock g.B.Base.reads g.H.Shelf.files g.H.Shelf.faults g.S.Source.left g.S.Source.given g.S.Source.faults g.K.Sink.written g.K.Sink.faults g.K.Sink.stalls c.step.new.room) (g.B.Base.left_since c.args.room.now.base) (g.B.Base.left_since c.steps.room.base) (g.B.Base.left_since c.step.new.room.base) c.steps.invariant.room.database c.steps.invariant.durable c.in_ok-step.ensures.crash.durable;
+          (outside g.B.Base.database g.B.Base.faults g.B.Base.clock g.B.Base.reads g.H.Shelf.files g.H.Shelf.faults g.S.Source.left g.S.Source.given g.S.Source.faults g.S.Source.ended g.K.Sink.written g.K.Sink.faults g.K.Sink.stalls c.args.room.now)
+          (outside g.B.Base.database g.B.Base.faults g.B.Base.clock g.B.Base.reads g.H.Shelf.files g.H.Shelf.faults g.S.Source.left g.S.Source.given g.S.Source.faults g.S.Source.ended g.K.Sink.written g.K.Sink.faults g.K.Sink.stalls c.steps.room)
+          (outside g.B.Base.database g.B.Base.faults g.B.Base.clock g.B.Base.reads g.H.Shelf.files g.H.Shelf.faults g.S.Source.left g.S.Source.given g.S.Source.faults g.S.Source.ended g.K.Sink.written g.K.Sink.faults g.K.Sink.stalls c.step.new.room) (g.B.Base.left_since c.args.room.now.base) (g.B.Base.left_since c.steps.room.base) (g.B.Base.left_since c.step.new.room.base) c.steps.invariant.room.database c.steps.invariant.durable c.in_ok-step.ensures.crash.durable;
     }
 
 pub returns-in-Blocked-clause-done : goal.returns-in-Blocked-clause-done
@@ -45,9 +45,9 @@ returns-in-Blocked-clause-done g c =
 
 pub returns-in-Blocked-clause-durable : goal.returns-in-Blocked-clause-durable
 returns-in-Blocked-clause-durable g c = durable_more
-    (outside g.B.Base.database g.B.Base.faults g.B.Base.clock g.B.Base.reads g.H.Shelf.files g.H.Shelf.faults g.S.Source.left g.S.Source.given g.S.Source.faults g.K.Sink.written g.K.Sink.faults g.K.Sink.stalls c.args.room.now)
-    (outside g.B.Base.database g.B.Base.faults g.B.Base.clock g.B.Base.reads g.H.Shelf.files g.H.Shelf.faults g.S.Source.left g.S.Source.given g.S.Source.faults g.K.Sink.written g.K.Sink.faults g.K.Sink.stalls c.steps.room)
-    (outside g.B.Base.database g.B.Base.faults g.B.Base.clock g.B.Base.reads g.H.Shelf.files g.H.Shelf.faults g.S.Source.left g.S.Source.given g.S.Source.faults g.K.Sink.written g.K.Sink.faults g.K.Sink.stalls c.step.new.room) (g.B.Base.left_since c.args.room.now.base) (g.B.Base.left_since c.steps.room.base) (g.B.Base.left_since c.step.new.room.base) c.steps.invariant.room.database c.steps.invariant.durable c.in_ok-step.ensures.crash.durable
+    (outside g.B.Base.database g.B.Base.faults g.B.Base.clock g.B.Base.reads g.H.Shelf.files g.H.Shelf.faults g.S.Source.left g.S.Source.given g.S.Source.faults g.S.Source.ended g.K.Sink.written g.K.Sink.faults g.K.Sink.stalls c.args.room.now)
+    (outside g.B.Base.database g.B.Base.faults g.B.Base.clock g.B.Base.reads g.H.Shelf.files g.H.Shelf.faults g.S.Source.left g.S.Source.given g.S.Source.faults g.S.Source.ended g.K.Sink.written g.K.Sink.faults g.K.Sink.stalls c.steps.room)
+    (outside g.B.Base.database g.B.Base.faults g.B.Base.clock g.B.Base.reads g.H.Shelf.files g.H.Shelf.faults g.S.Source.left g.S.Source.given g.S.Source.faults g.S.Source.ended g.K.Sink.written g.K.Sink.faults g.K.Sink.stalls c.step.new.room) (g.B.Base.left_since c.args.room.now.base) (g.B.Base.left_since c.steps.room.base) (g.B.Base.left_since c.step.new.room.base) c.steps.invariant.room.database c.steps.invariant.durable c.in_ok-step.ensures.crash.durable
 
 pub returns-clause-done : goal.returns-clause-done
 returns-clause-done g c =
@@ -55,9 +55,9 @@ returns-clause-done g c =
 
 pub returns-in_err-step-clause-heard : goal.returns-in_err-step-clause-heard
 returns-in_err-step-clause-heard g c = script_more _ _ _
-    (outside g.B.Base.database g.B.Base.faults g.B.Base.clock g.B.Base.reads g.H.Shelf.files g.H.Shelf.faults g.S.Source.left g.S.Source.given g.S.Source.faults g.K.Sink.written g.K.Sink.faults g.K.Sink.stalls c.args.room.now)
-    (outside g.B.Base.database g.B.Base.faults g.B.Base.clock g.B.Base.reads g.H.Shelf.files g.H.Shelf.faults g.S.Source.left g.S.Source.given g.S.Source.faults g.K.Sink.written g.K.Sink.faults g.K.Sink.stalls c.steps.room)
-    (outside g.B.Base.database g.B.Base.faults g.B.Base.clock g.B.Base.reads g.H.Shelf.files g.H.Shelf.faults g.S.Source.left g.S.Source.given g.S.Source.faults g.K.Sink.written g.K.Sink.faults g.K.Sink.stalls c.step.new.room) c.steps.invariant.room.script c.in_err-step.ensures.room.script
+    (outside g.B.Base.database g.B.Base.faults g.B.Base.clock g.B.Base.reads g.H.Shelf.files g.H.Shelf.faults g.S.Source.left g.S.Source.given g.S.Source.faults g.S.Source.ended g.K.Sink.written g.K.Sink.faults g.K.Sink.stalls c.args.room.now)
+    (outside g.B.Base.database g.B.Base.faults g.B.Base.clock g.B.Base.reads g.H.Shelf.files g.H.Shelf.faults g.S.Source.left g.S.Source.given g.S.Source.faults g.S.Source.ended g.K.Sink.written g.K.Sink.faults g.K.Sink.stalls c.steps.room)
+    (outside g.B.Base.database g.B.Base.faults g.B.Base.clock g.B.Base.reads g.H.Shelf.files g.H.Shelf.faults g.S.Source.left g.S.Source.given g.S.Source.faults g.S.Source.ended g.K.Sink.written g.K.Sink.faults g.K.Sink.stalls c.step.new.room) c.steps.invariant.room.script c.in_err-step.ensures.room.script
 
 pub returns-in_err-step-clause-given : goal.returns-in_err-step-clause-given
 returns-in_err-step-clause-given g c = heard_more _ _ _ _ _ _ c.steps.invariant.room.given c.in_err-step.ensures.room.given

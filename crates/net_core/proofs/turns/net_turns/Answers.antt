@@ -10,7 +10,7 @@ loop-k-init g c = (none_done _ _ _ _ _ _ _, refl, no_turn _ _ _ _ _ _)
 
 pub loop-k-preserved : goal.loop-k-preserved
 loop-k-preserved g c = (
-  one_more_done _ _ _ _ _ _ _ _ _ _ _ _ _ _ _ _ _ _ _ _ _ _ _ _ c.loop-k.invariant.1 c.loop-k-test.true c.loop-k.invariant.0 c.in_ok-net_step.ensures.steps
+  one_more_done _ _ _ _ _ _ _ _ _ _ _ _ _ _ _ _ _ _ _ _ _ _ _ _ _ c.loop-k.invariant.1 c.loop-k-test.true c.loop-k.invariant.0 c.in_ok-net_step.ensures.steps
       c.in_ok-net_step.ensures.serve c.in_ok-net_step.ensures.numbers c.in_ok-net_step.ensures.later c.in_ok-net_step.ensures.reads c.in_ok-net_step.ensures.within c.in_ok-net_step.ensures.counts c.in_ok-net_step.ensures.database,
   c.in_ok-net_step.ensures.capacity ∙ c.loop-k.invariant.1,
   one_more_turn _ _ _ _ _ _ _ _ _ _ _ _ _ _ _ _ _ _ _ _ _ _ c.loop-k-test.true c.loop-k.invariant.0 c.loop-k.invariant.2
@@ -24,7 +24,7 @@ returns-in_err-net_step-clause-stopped g c =
 
 pub returns-in_err-net_step-clause-failed : goal.returns-in_err-net_step-clause-failed
 returns-in_err-net_step-clause-failed g c = turns_failed c.from_residual.result _ _ _ _ _ _
-    (outside g.B.Base.database g.B.Base.faults g.B.Base.clock g.B.Base.reads g.H.Shelf.files g.H.Shelf.faults g.S.Source.left g.S.Source.given g.S.Source.faults g.K.Sink.written g.K.Sink.faults g.K.Sink.stalls c.net_step.new.room) _ _ _ _ _ _ _ _ c.loop-k.invariant.0 c.in_err-net_step.ensures.failed
+    (outside g.B.Base.database g.B.Base.faults g.B.Base.clock g.B.Base.reads g.H.Shelf.files g.H.Shelf.faults g.S.Source.left g.S.Source.given g.S.Source.faults g.S.Source.ended g.K.Sink.written g.K.Sink.faults g.K.Sink.stalls c.net_step.new.room) _ _ _ _ _ _ _ _ c.loop-k.invariant.0 c.in_err-net_step.ensures.failed
 
 pub returns-in_err-net_step-clause-lawful : goal.returns-in_err-net_step-clause-lawful
 returns-in_err-net_step-clause-lawful g c = λ user x u. turns_disorderly _ _ _ _ _ _ _ _ _ _ _ _ _ _ c.loop-k.invariant.0 user x (λ y. c.in_err-net_step.ensures.lawful user y (let h = rw u at c.from_residual.ensures.1 in cc))
@@ -37,7 +37,7 @@ returns-clause-finishes g c = turns_finish _ _ _ _ _ _ _ _ _ _ _ _ _ _ c.loop-k.
 
 pub returns-in_err-net_step-clause-crash : goal.returns-in_err-net_step-clause-crash
 returns-in_err-net_step-clause-crash g c = turns_leave _ _ _ _ _ _ _
-    (outside g.B.Base.database g.B.Base.faults g.B.Base.clock g.B.Base.reads g.H.Shelf.files g.H.Shelf.faults g.S.Source.left g.S.Source.given g.S.Source.faults g.K.Sink.written g.K.Sink.faults g.K.Sink.stalls c.net_step.new.room) _ _ _ _ _ _ _ _ _ _ _ c.loop-k-test.true c.loop-k.invariant.0 c.loop-k.invariant.2 c.in_err-net_step.ensures.crash
+    (outside g.B.Base.database g.B.Base.faults g.B.Base.clock g.B.Base.reads g.H.Shelf.files g.H.Shelf.faults g.S.Source.left g.S.Source.given g.S.Source.faults g.S.Source.ended g.K.Sink.written g.K.Sink.faults g.K.Sink.stalls c.net_step.new.room) _ _ _ _ _ _ _ _ _ _ _ c.loop-k-test.true c.loop-k.invariant.0 c.loop-k.invariant.2 c.in_err-net_step.ensures.crash
 
 pub returns-clause-crash : goal.returns-clause-crash
 returns-clause-crash g c = c.loop-k.invariant.2.crash
@@ -57,13 +57,16 @@ returns-clause-within g c = c.loop-k.invariant.0.within
 pub returns-clause-counts : goal.returns-clause-counts
 returns-clause-counts g c = c.loop-k.invariant.0.counts
 
+pub returns-clause-over : goal.returns-clause-over
+returns-clause-over g c = let s = c.loop-k.invariant.0.over in record { stays = s.stays; whole = s.whole; going = λ f. absurd f }
+
 pub returns-in_err-net_step-clause-heard : goal.returns-in_err-net_step-clause-heard
 returns-in_err-net_step-clause-heard g c = script_more _ _ _
-    (outside g.B.Base.database g.B.Base.faults g.B.Base.clock g.B.Base.reads g.H.Shelf.files g.H.Shelf.faults g.S.Source.left g.S.Source.given g.S.Source.faults g.K.Sink.written g.K.Sink.faults g.K.Sink.stalls c.args.room.now)
-    (outside g.B.Base.database g.B.Base.faults g.B.Base.clock g.B.Base.reads g.H.Shelf.files g.H.Shelf.faults g.S.Source.left g.S.Source.given g.S.Source.faults g.K.Sink.written g.K.Sink.faults g.K.Sink.stalls c.loop-k.room)
-    (outside g.B.Base.database g.B.Base.faults g.B.Base.clock g.B.Base.reads g.H.Shelf.files g.H.Shelf.faults g.S.Source.left g.S.Source.given g.S.Source.faults g.K.Sink.written g.K.Sink.faults g.K.Sink.stalls c.net_step.new.room) c.loop-k.invariant.0.script (script_of _ _
-    (outside g.B.Base.database g.B.Base.faults g.B.Base.clock g.B.Base.reads g.H.Shelf.files g.H.Shelf.faults g.S.Source.left g.S.Source.given g.S.Source.faults g.K.Sink.written g.K.Sink.faults g.K.Sink.stalls c.loop-k.room)
-    (outside g.B.Base.database g.B.Base.faults g.B.Base.clock g.B.Base.reads g.H.Shelf.files g.H.Shelf.faults g.S.Source.left g.S.Source.given g.S.Source.faults g.K.Sink.written g.K.Sink.faults g.K.Sink.stalls c.net_step.new.room) _ c.in_err-net_step.ensures.reads)
+    (outside g.B.Base.database g.B.Base.faults g.B.Base.clock g.B.Base.reads g.H.Shelf.files g.H.Shelf.faults g.S.Source.left g.S.Source.given g.S.Source.faults g.S.Source.ended g.K.Sink.written g.K.Sink.faults g.K.Sink.stalls c.args.room.now)
+    (outside g.B.Base.database g.B.Base.faults g.B.Base.clock g.B.Base.reads g.H.Shelf.files g.H.Shelf.faults g.S.Source.left g.S.Source.given g.S.Source.faults g.S.Source.ended g.K.Sink.written g.K.Sink.faults g.K.Sink.stalls c.loop-k.room)
+    (outside g.B.Base.database g.B.Base.faults g.B.Base.clock g.B.Base.reads g.H.Shelf.files g.H.Shelf.faults g.S.Source.left g.S.Source.given g.S.Source.faults g.S.Source.ended g.K.Sink.written g.K.Sink.faults g.K.Sink.stalls c.net_step.new.room) c.loop-k.invariant.0.script (script_of _ _
+    (outside g.B.Base.database g.B.Base.faults g.B.Base.clock g.B.Base.reads g.H.Shelf.files g.H.Shelf.faults g.S.Source.left g.S.Source.given g.S.Source.faults g.S.Source.ended g.K.Sink.written g.K.Sink.faults g.K.Sink.stalls c.loop-k.room)
+    (outside g.B.Base.database g.B.Base.faults g.B.Base.clock g.B.Base.reads g.H.Shelf.files g.H.Shelf.faults g.S.Source.left g.S.Source.given g.S.Source.faults g.S.Source.ended g.K.Sink.written g.K.Sink.faults g.K.Sink.stalls c.net_step.new.room) _ c.in_err-net_step.ensures.reads)
 
 pub returns-in_err-net_step-clause-given : goal.returns-in_err-net_step-clause-given
 returns-in_err-net_step-clause-given g c = heard_more _ _ _ _ _ _ c.loop-k.invariant.0.given c.in_err-net_step.ensures.reads.given
@@ -77,6 +80,6 @@ pub returns-in_err-net_step-clause-counts : goal.returns-in_err-net_step-clause-
 returns-in_err-net_step-clause-counts g c =
     let is : c.from_residual.result ≡ Err c.in_err-net_step.field-0.0 = search rules in
     rw is (counts_from
-    (outside g.B.Base.database g.B.Base.faults g.B.Base.clock g.B.Base.reads g.H.Shelf.files g.H.Shelf.faults g.S.Source.left g.S.Source.given g.S.Source.faults g.K.Sink.written g.K.Sink.faults g.K.Sink.stalls c.args.room.now)
-    (outside g.B.Base.database g.B.Base.faults g.B.Base.clock g.B.Base.reads g.H.Shelf.files g.H.Shelf.faults g.S.Source.left g.S.Source.given g.S.Source.faults g.K.Sink.written g.K.Sink.faults g.K.Sink.stalls c.loop-k.room)
-    (outside g.B.Base.database g.B.Base.faults g.B.Base.clock g.B.Base.reads g.H.Shelf.files g.H.Shelf.faults g.S.Source.left g.S.Source.given g.S.Source.faults g.K.Sink.written g.K.Sink.faults g.K.Sink.stalls c.net_step.new.room) c.in_err-net_step.field-0.0 c.loop-k.invariant.0.counts c.in_err-net_step.ensures.counts)
+    (outside g.B.Base.database g.B.Base.faults g.B.Base.clock g.B.Base.reads g.H.Shelf.files g.H.Shelf.faults g.S.Source.left g.S.Source.given g.S.Source.faults g.S.Source.ended g.K.Sink.written g.K.Sink.faults g.K.Sink.stalls c.args.room.now)
+    (outside g.B.Base.database g.B.Base.faults g.B.Base.clock g.B.Base.reads g.H.Shelf.files g.H.Shelf.faults g.S.Source.left g.S.Source.given g.S.Source.faults g.S.Source.ended g.K.Sink.written g.K.Sink.faults g.K.Sink.stalls c.loop-k.room)
+    (outside g.B.Base.database g.B.Base.faults g.B.Base.clock g.B.Base.reads g.H.Shelf.files g.H.Shelf.faults g.S.Source.left g.S.Source.given g.S.Source.faults g.S.Source.ended g.K.Sink.written g.K.Sink.faults g.K.Sink.stalls c.net_step.new.room) c.in_err-net_step.field-0.0 c.loop-k.invariant.0.counts c.in_err-net_step.ensures.counts)

@@ -18,8 +18,8 @@ pub returns-in_ok-print-in-Printing : goal.returns-in_ok-print-in-Printing
 returns-in_ok-print-in-Printing g c =
     let room = c.args.room.now in
     let s = c.args.self.now in
-    let before : Outside = outside g.B.Base.database g.B.Base.faults g.B.Base.clock g.B.Base.reads g.H.Shelf.files g.H.Shelf.faults g.S.Source.left g.S.Source.given g.S.Source.faults g.K.Sink.written g.K.Sink.faults g.K.Sink.stalls room in
-    let after : Outside = outside g.B.Base.database g.B.Base.faults g.B.Base.clock g.B.Base.reads g.H.Shelf.files g.H.Shelf.faults g.S.Source.left g.S.Source.given g.S.Source.faults g.K.Sink.written g.K.Sink.faults g.K.Sink.stalls (record { base = room.base; shelf = room.shelf; source = room.source; sink = c.print.new.sink }) in
+    let before : Outside = outside g.B.Base.database g.B.Base.faults g.B.Base.clock g.B.Base.reads g.H.Shelf.files g.H.Shelf.faults g.S.Source.left g.S.Source.given g.S.Source.faults g.S.Source.ended g.K.Sink.written g.K.Sink.faults g.K.Sink.stalls room in
+    let after : Outside = outside g.B.Base.database g.B.Base.faults g.B.Base.clock g.B.Base.reads g.H.Shelf.files g.H.Shelf.faults g.S.Source.left g.S.Source.given g.S.Source.faults g.S.Source.ended g.K.Sink.written g.K.Sink.faults g.K.Sink.stalls (record { base = room.base; shelf = room.shelf; source = room.source; sink = c.print.new.sink }) in
     let now : c.printed.new.self ≡ at_said c.in-Printing.begun c.in-Printing.said = c.printed.ensures ∙ ap at_printed c.in-Printing.is in
     let same : SameButOutput before after = record { database = refl; files = refl; script = refl } in
     let a : Around {T = Unit {0}} s.heard s.heard before after (Ok tt) = record {
@@ -55,8 +55,8 @@ pub returns-in_err-print-in-Printing : goal.returns-in_err-print-in-Printing
 returns-in_err-print-in-Printing g c =
     let room = c.args.room.now in
     let s = c.args.self.now in
-    let before : Outside = outside g.B.Base.database g.B.Base.faults g.B.Base.clock g.B.Base.reads g.H.Shelf.files g.H.Shelf.faults g.S.Source.left g.S.Source.given g.S.Source.faults g.K.Sink.written g.K.Sink.faults g.K.Sink.stalls room in
-    let after : Outside = outside g.B.Base.database g.B.Base.faults g.B.Base.clock g.B.Base.reads g.H.Shelf.files g.H.Shelf.faults g.S.Source.left g.S.Source.given g.S.Source.faults g.K.Sink.written g.K.Sink.faults g.K.Sink.stalls (record { base = room.base; shelf = room.shelf; source = room.source; sink = c.print.new.sink }) in
+    let before : Outside = outside g.B.Base.database g.B.Base.faults g.B.Base.clock g.B.Base.reads g.H.Shelf.files g.H.Shelf.faults g.S.Source.left g.S.Source.given g.S.Source.faults g.S.Source.ended g.K.Sink.written g.K.Sink.faults g.K.Sink.stalls room in
+    let after : Outside = outside g.B.Base.database g.B.Base.faults g.B.Base.clock g.B.Base.reads g.H.Shelf.files g.H.Shelf.faults g.S.Source.left g.S.Source.given g.S.Source.faults g.S.Source.ended g.K.Sink.written g.K.Sink.faults g.K.Sink.stalls (record { base = room.base; shelf = room.shelf; source = room.source; sink = c.print.new.sink }) in
     let f = c.in_err-print-in-Printing.field-0.0 in
     let r = c.from_residual.result in
     let is = handed_on r f c.from_residual.ensures.1 in
@@ -97,8 +97,8 @@ pub returns-in_ok-read-in-Reading : goal.returns-in_ok-read-in-Reading
 returns-in_ok-read-in-Reading g c =
     let room = c.args.room.now in
     let s = c.args.self.now in
-    let before : Outside = outside g.B.Base.database g.B.Base.faults g.B.Base.clock g.B.Base.reads g.H.Shelf.files g.H.Shelf.faults g.S.Source.left g.S.Source.given g.S.Source.faults g.K.Sink.written g.K.Sink.faults g.K.Sink.stalls room in
-    let after : Outside = outside g.B.Base.database g.B.Base.faults g.B.Base.clock g.B.Base.reads g.H.Shelf.files g.H.Shelf.faults g.S.Source.left g.S.Source.given g.S.Source.faults g.K.Sink.written g.K.Sink.faults g.K.Sink.stalls (record { base = c.give_turn.new.base; shelf = c.read.new.shelf; source = c.read.new.source; sink = c.read.new.sink }) in
+    let before : Outside = outside g.B.Base.database g.B.Base.faults g.B.Base.clock g.B.Base.reads g.H.Shelf.files g.H.Shelf.faults g.S.Source.left g.S.Source.given g.S.Source.faults g.S.Source.ended g.K.Sink.written g.K.Sink.faults g.K.Sink.stalls room in
+    let after : Outside = outside g.B.Base.database g.B.Base.faults g.B.Base.clock g.B.Base.reads g.H.Shelf.files g.H.Shelf.faults g.S.Source.left g.S.Source.given g.S.Source.faults g.S.Source.ended g.K.Sink.written g.K.Sink.faults g.K.Sink.stalls (record { base = c.give_turn.new.base; shelf = c.read.new.shelf; source = c.read.new.source; sink = c.read.new.sink }) in
     let done = c.in_ok-read-in-Reading.ensures in
     let turn = c.give_turn.ensures in
     let a : Around {T = Unit {0}} s.heard c.read.new.heard before after (Ok tt) = record {
@@ -134,8 +134,8 @@ pub returns-in_err-read-in-Reading : goal.returns-in_err-read-in-Reading
 returns-in_err-read-in-Reading g c =
     let room = c.args.room.now in
     let s = c.args.self.now in
-    let before : Outside = outside g.B.Base.database g.B.Base.faults g.B.Base.clock g.B.Base.reads g.H.Shelf.files g.H.Shelf.faults g.S.Source.left g.S.Source.given g.S.Source.faults g.K.Sink.written g.K.Sink.faults g.K.Sink.stalls room in
-    let after : Outside = outside g.B.Base.database g.B.Base.faults g.B.Base.clock g.B.Base.reads g.H.Shelf.files g.H.Shelf.faults g.S.Source.left g.S.Source.given g.S.Source.faults g.K.Sink.written g.K.Sink.faults g.K.Sink.stalls (record { base = room.base; shelf = c.read.new.shelf; source = c.read.new.source; sink = c.read.new.sink }) in
+    let before : Outside = outside g.B.Base.database g.B.Base.faults g.B.Base.clock g.B.Base.reads g.H.Shelf.files g.H.Shelf.faults g.S.Source.left g.S.Source.given g.S.Source.faults g.S.Source.ended g.K.Sink.written g.K.Sink.faults g.K.Sink.stalls room in
+    let after : Outside = outside g.B.Base.database g.B.Base.faults g.B.Base.clock g.B.Base.reads g.H.Shelf.files g.H.Shelf.faults g.S.Source.left g.S.Source.given g.S.Source.faults g.S.Source.ended g.K.Sink.written g.K.Sink.faults g.K.Sink.stalls (record { base = room.base; shelf = c.read.new.shelf; source = c.read.new.source; sink = c.read.new.sink }) in
     let f = c.in_err-read-in-Reading.field-0.0 in
     let r = c.from_residual-in_err-read-in-Reading.result in
     let is = handed_on r f c.from_residual-in_err-read-in-Reading.ensures.1 in

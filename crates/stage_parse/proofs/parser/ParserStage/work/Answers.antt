@@ -10,12 +10,12 @@ use Rattle.stage_parse.proofs.parser.ParserStage.work.Goals as goal
 
 pub returns-clause-works : goal.returns-clause-works
 returns-clause-works g c =
-    let before : Outside = outside g.B.Base.database g.B.Base.faults g.B.Base.clock g.B.Base.reads g.H.Shelf.files g.H.Shelf.faults g.S.Source.left g.S.Source.given g.S.Source.faults g.K.Sink.written g.K.Sink.faults g.K.Sink.stalls c.args.room.now in
+    let before : Outside = outside g.B.Base.database g.B.Base.faults g.B.Base.clock g.B.Base.reads g.H.Shelf.files g.H.Shelf.faults g.S.Source.left g.S.Source.given g.S.Source.faults g.S.Source.ended g.K.Sink.written g.K.Sink.faults g.K.Sink.stalls c.args.room.now in
     λ who served. works_any (quel who) c.args.self.now.ranges c.args.self.now.at c.args.self.now.walk c.args.self.now.got_left c.args.self.now.got_right c.args.self.now.out_left c.args.self.now.out_right (stands c.parse_on.new.self) before (g.B.Base.database c.parse_on.new.base) (g.B.Base.faults c.parse_on.new.base) (g.B.Base.clock c.parse_on.new.base) (g.B.Base.reads c.parse_on.new.base) c.parse_on.result (is_parsing c.args.self.now.ranges c.args.self.now.at c.args.self.now.walk c.args.self.now.got_left c.args.self.now.got_right c.args.self.now.out_left c.args.self.now.out_right c.requires) c.parse_on.ensures.kept (c.parse_on.ensures.parsed who served)
 
 pub returns-clause-failed : goal.returns-clause-failed
 returns-clause-failed g c =
-    let before : Outside = outside g.B.Base.database g.B.Base.faults g.B.Base.clock g.B.Base.reads g.H.Shelf.files g.H.Shelf.faults g.S.Source.left g.S.Source.given g.S.Source.faults g.K.Sink.written g.K.Sink.faults g.K.Sink.stalls c.args.room.now in
+    let before : Outside = outside g.B.Base.database g.B.Base.faults g.B.Base.clock g.B.Base.reads g.H.Shelf.files g.H.Shelf.faults g.S.Source.left g.S.Source.given g.S.Source.faults g.S.Source.ended g.K.Sink.written g.K.Sink.faults g.K.Sink.stalls c.args.room.now in
     λ who served. failed_any (quel who) (mode_at c.args.self.now.ranges c.args.self.now.at c.args.self.now.walk) before (g.B.Base.database c.parse_on.new.base) (g.B.Base.faults c.parse_on.new.base) (g.B.Base.clock c.parse_on.new.base) (g.B.Base.reads c.parse_on.new.base) c.parse_on.result c.parse_on.ensures.kept
 
 pub returns-clause-unlawful : goal.returns-clause-unlawful
@@ -24,22 +24,22 @@ returns-clause-unlawful g c =
 
 pub returns-clause-database : goal.returns-clause-database
 returns-clause-database g c =
-    let before : Outside = outside g.B.Base.database g.B.Base.faults g.B.Base.clock g.B.Base.reads g.H.Shelf.files g.H.Shelf.faults g.S.Source.left g.S.Source.given g.S.Source.faults g.K.Sink.written g.K.Sink.faults g.K.Sink.stalls c.args.room.now in
+    let before : Outside = outside g.B.Base.database g.B.Base.faults g.B.Base.clock g.B.Base.reads g.H.Shelf.files g.H.Shelf.faults g.S.Source.left g.S.Source.given g.S.Source.faults g.S.Source.ended g.K.Sink.written g.K.Sink.faults g.K.Sink.stalls c.args.room.now in
     database_any before (g.B.Base.database c.parse_on.new.base) (g.B.Base.faults c.parse_on.new.base) (g.B.Base.clock c.parse_on.new.base) (g.B.Base.reads c.parse_on.new.base) c.parse_on.result c.parse_on.ensures.kept
 
 pub returns-clause-cause : goal.returns-clause-cause
 returns-clause-cause g c =
-    let before : Outside = outside g.B.Base.database g.B.Base.faults g.B.Base.clock g.B.Base.reads g.H.Shelf.files g.H.Shelf.faults g.S.Source.left g.S.Source.given g.S.Source.faults g.K.Sink.written g.K.Sink.faults g.K.Sink.stalls c.args.room.now in
+    let before : Outside = outside g.B.Base.database g.B.Base.faults g.B.Base.clock g.B.Base.reads g.H.Shelf.files g.H.Shelf.faults g.S.Source.left g.S.Source.given g.S.Source.faults g.S.Source.ended g.K.Sink.written g.K.Sink.faults g.K.Sink.stalls c.args.room.now in
     cause_any 0 before (g.B.Base.database c.parse_on.new.base) (g.B.Base.faults c.parse_on.new.base) (g.B.Base.clock c.parse_on.new.base) (g.B.Base.reads c.parse_on.new.base) c.parse_on.result c.parse_on.ensures.cause
 
 pub returns-clause-counts : goal.returns-clause-counts
 returns-clause-counts g c =
-    let before : Outside = outside g.B.Base.database g.B.Base.faults g.B.Base.clock g.B.Base.reads g.H.Shelf.files g.H.Shelf.faults g.S.Source.left g.S.Source.given g.S.Source.faults g.K.Sink.written g.K.Sink.faults g.K.Sink.stalls c.args.room.now in
+    let before : Outside = outside g.B.Base.database g.B.Base.faults g.B.Base.clock g.B.Base.reads g.H.Shelf.files g.H.Shelf.faults g.S.Source.left g.S.Source.given g.S.Source.faults g.S.Source.ended g.K.Sink.written g.K.Sink.faults g.K.Sink.stalls c.args.room.now in
     counts_any before (g.B.Base.database c.parse_on.new.base) (g.B.Base.faults c.parse_on.new.base) (g.B.Base.clock c.parse_on.new.base) (g.B.Base.reads c.parse_on.new.base) c.parse_on.result c.parse_on.ensures.counted c.parse_on.ensures.cause
 
 pub returns-clause-spares : goal.returns-clause-spares
 returns-clause-spares g c =
-    let before : Outside = outside g.B.Base.database g.B.Base.faults g.B.Base.clock g.B.Base.reads g.H.Shelf.files g.H.Shelf.faults g.S.Source.left g.S.Source.given g.S.Source.faults g.K.Sink.written g.K.Sink.faults g.K.Sink.stalls c.args.room.now in
+    let before : Outside = outside g.B.Base.database g.B.Base.faults g.B.Base.clock g.B.Base.reads g.H.Shelf.files g.H.Shelf.faults g.S.Source.left g.S.Source.given g.S.Source.faults g.S.Source.ended g.K.Sink.written g.K.Sink.faults g.K.Sink.stalls c.args.room.now in
     spares_any before (g.B.Base.database c.parse_on.new.base) (g.B.Base.faults c.parse_on.new.base) (g.B.Base.clock c.parse_on.new.base) (g.B.Base.reads c.parse_on.new.base) c.parse_on.result c.parse_on.ensures.kept c.parse_on.ensures.cause
 
 pub returns-clause-reads : goal.returns-clause-reads
@@ -60,17 +60,17 @@ returns-clause-handed g c =
 
 pub returns-clause-crash : goal.returns-clause-crash
 returns-clause-crash g c =
-    let before : Outside = outside g.B.Base.database g.B.Base.faults g.B.Base.clock g.B.Base.reads g.H.Shelf.files g.H.Shelf.faults g.S.Source.left g.S.Source.given g.S.Source.faults g.K.Sink.written g.K.Sink.faults g.K.Sink.stalls c.args.room.now in
+    let before : Outside = outside g.B.Base.database g.B.Base.faults g.B.Base.clock g.B.Base.reads g.H.Shelf.files g.H.Shelf.faults g.S.Source.left g.S.Source.given g.S.Source.faults g.S.Source.ended g.K.Sink.written g.K.Sink.faults g.K.Sink.stalls c.args.room.now in
     let asked = g.B.Base.asks c.args.room.now.base c.parse_on.new.base (c.parse_on.ensures.asked c.args.room.now.base (g.B.Base.starts c.args.room.now.base)) in
     λ who served. crash_any (quel who) (mode_at c.args.self.now.ranges c.args.self.now.at c.args.self.now.walk) before (g.B.Base.database c.parse_on.new.base) (g.B.Base.faults c.parse_on.new.base) (g.B.Base.clock c.parse_on.new.base) (g.B.Base.reads c.parse_on.new.base) (g.B.Base.left_since c.args.room.now.base) (g.B.Base.left_since c.parse_on.new.base) asked.nothing_else
 
 pub returns-clause-durable : goal.returns-clause-durable
 returns-clause-durable g c =
-    let before : Outside = outside g.B.Base.database g.B.Base.faults g.B.Base.clock g.B.Base.reads g.H.Shelf.files g.H.Shelf.faults g.S.Source.left g.S.Source.given g.S.Source.faults g.K.Sink.written g.K.Sink.faults g.K.Sink.stalls c.args.room.now in
+    let before : Outside = outside g.B.Base.database g.B.Base.faults g.B.Base.clock g.B.Base.reads g.H.Shelf.files g.H.Shelf.faults g.S.Source.left g.S.Source.given g.S.Source.faults g.S.Source.ended g.K.Sink.written g.K.Sink.faults g.K.Sink.stalls c.args.room.now in
     let asked = g.B.Base.asks c.args.room.now.base c.parse_on.new.base (c.parse_on.ensures.asked c.args.room.now.base (g.B.Base.starts c.args.room.now.base)) in
     durable_any before (g.B.Base.database c.parse_on.new.base) (g.B.Base.faults c.parse_on.new.base) (g.B.Base.clock c.parse_on.new.base) (g.B.Base.reads c.parse_on.new.base) (g.B.Base.left_since c.args.room.now.base) (g.B.Base.left_since c.parse_on.new.base) c.parse_on.result c.parse_on.ensures.kept (g.B.Base.counts_now c.parse_on.new.base) asked.nothing_else
 
 pub returns-clause-quiet : goal.returns-clause-quiet
 returns-clause-quiet g c =
-    let before : Outside = outside g.B.Base.database g.B.Base.faults g.B.Base.clock g.B.Base.reads g.H.Shelf.files g.H.Shelf.faults g.S.Source.left g.S.Source.given g.S.Source.faults g.K.Sink.written g.K.Sink.faults g.K.Sink.stalls c.args.room.now in
+    let before : Outside = outside g.B.Base.database g.B.Base.faults g.B.Base.clock g.B.Base.reads g.H.Shelf.files g.H.Shelf.faults g.S.Source.left g.S.Source.given g.S.Source.faults g.S.Source.ended g.K.Sink.written g.K.Sink.faults g.K.Sink.stalls c.args.room.now in
     quiet_any c.args.self.now.ranges c.args.self.now.at c.args.self.now.walk c.args.self.now.got_left c.args.self.now.got_right c.args.self.now.out_left c.args.self.now.out_right before (changed before (g.B.Base.database c.parse_on.new.base) (g.B.Base.faults c.parse_on.new.base) (g.B.Base.clock c.parse_on.new.base) (g.B.Base.reads c.parse_on.new.base)) (is_parsing c.args.self.now.ranges c.args.self.now.at c.args.self.now.walk c.args.self.now.got_left c.args.self.now.got_right c.args.self.now.out_left c.args.self.now.out_right c.requires)
