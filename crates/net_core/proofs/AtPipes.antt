@@ -1,5 +1,5 @@
 -- What a stage did at a pipe, or where it has ended, as a step of a stage between its pipes.
-use Rattle.std.proofs.Common.{IfOk, IfErr, OnOk, OnErr, IsErrOf, ◌≡◌, ◌<◌, ◌≤◌, inl, inr, ℕ, Bool, true, false, List, [], ◌∷◌, ◌++◌, Result, Ok, Err, length, not, nat_lt, refl, arith}
+use Rattle.std.proofs.Common.{IsOk, IfOk, IfErr, OnOk, OnErr, IsErrOf, ◌≡◌, ◌<◌, ◌≤◌, inl, inr, ℕ, Bool, true, false, List, [], ◌∷◌, ◌++◌, Result, Ok, Err, length, not, nat_lt, refl, arith}
 use Rattle.std.proofs.lemmas.Grind.{common_steps}
 use Rattle.frame_codec.specs.declared.frame.Frame.{Frame}
 use Rattle.net_core.specs.Causes.{IsCaused, MayNotTake}

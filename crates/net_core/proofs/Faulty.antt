@@ -1,5 +1,6 @@
 -- Faults that come of one part or of one step, as those of the whole.
-use Rattle.std.proofs.Common.{IsErrOf, ◌≡◌, ◌==◌, ◌⊎◌, ◌+◌, ◌-◌, ◌^◌, ◌≤◌, ◌++◌, [], ◌∷◌, inl, inr, ℕ, Bool, true, false, List, Some, None, Result, Ok, Err, refl, sym, ap, subst, ◌∙◌, append_assoc, append-nil, length, length-append, arith}
+use Rattle.std.proofs.Common.{IsErrOf, IsOk, ◌≡◌, ◌==◌, ◌⊎◌, ◌+◌, ◌-◌, ◌^◌, ◌≤◌, ◌++◌, [], ◌∷◌, inl, inr, ℕ, Bool, true, false, List, Some, None, Result, Ok, Err, refl, sym, ap, subst, ◌∙◌, append_assoc, append-nil, length, length-append, arith}
+use Rattle.std.specs.Prelude.{⊤}
 use Rattle.std.proofs.lemmas.Grind.{common_steps}
 use Rattle.std.specs.declared.option.Option.{Option}
 use Rattle.calculus.specs.Database.{Db}
@@ -30,7 +31,7 @@ caused_more heard whole rest before after (Ok x) e c = tt
 caused_more heard whole rest before after (Err fault) e c = may_come_more heard whole rest before after fault e c
 
 nothing_more : (heard heard' whole whole' rest : ℕ) (before after : Outside) (failed : Type 0) → whole ≡ heard + rest → whole' ≡ heard' + rest → ReadsNothing heard heard' before after failed → ReadsNothing whole whole' before after failed
-nothing_more heard heard' whole whole' rest before after failed e e' n = record { heard = omega (arith, n.heard, e, e'); script = n.script; fine = n.fine }
+nothing_more heard heard' whole whole' rest before after failed e e' n = record { unread = (let same = n.unread in omega (arith, same, e, e')); script = n.script; fine = n.fine }
 
 pub reads_more : (mode mode' : Mode quel_sorts) (heard heard' whole whole' rest : ℕ) (before after : Outside) (failed done : Type 0) → mode ≡ mode' → whole ≡ heard + rest → whole' ≡ heard' + rest → ReadsOn mode heard heard' before after failed done → ReadsOn mode' whole whole' before after failed done
 reads_more mode mode' heard heard' whole whole' rest before after failed done m e e' k = record {
@@ -97,7 +98,7 @@ reads_same mode h h' o failed done fine e = record {
   line = λ script known. ([], [], script, known, refl, omega (arith, e), refl, omega arith);
   broken = λ f script known. ([], script, known, refl, refl);
   given = heard_same h h' o.given e;
-  asks = inr (record { heard = e; script = refl; fine = fine });
+  asks = inr (record { unread = e; script = refl; fine = fine });
   over = sees_nothing o o failed done refl refl fine;
 }
 
@@ -161,13 +162,13 @@ reads_nothing mode h before after failed done same given ended fine = record {
   line = λ script known. ([], [], script, same ∙ known, refl, omega arith, refl, omega arith);
   broken = λ f script known. ([], script, same ∙ known, refl, refl);
   given = (0, omega arith, inl (omega (arith, given)));
-  asks = inr (record { heard = refl; script = same; fine = fine });
+  asks = inr (record { unread = refl; script = same; fine = fine });
   over = sees_nothing before after failed done same ended fine;
 }
 
 -- a result whose fault is none of the source, the sink or the script's length is no fault of the source
 pub no_source : {T : Type 0} (result : Result T WorkFault) → IsInside result → IsErrOf result faults.Source → ⊥
-no_source (Ok x) inside is = is
+no_source (Ok x) inside is = cc is
 no_source (Err faults.Source) inside is = inside
 no_source (Err faults.Sink) inside is = inside
 no_source (Err faults.TooLong) inside is = inside
@@ -207,6 +208,17 @@ sees_more a b c failed done first y f g = record {
     earlier : (was : Bool) → a.source_ended ≡ was → b.source_ended ≡ false → a.source_ended ≡ false
     earlier false is e = is
     earlier true is e = absurd (let still = f.stays y is in cc (still, e))
+
+-- the end of the source, where the last step failed
+pub sees_failed : {T U : Type 0} (a b c : Outside) (fault : WorkFault) → SeesEnd a b ⊥ ⊤ → SeesEnd b c (IsErrOf {T = T} (Err fault) faults.Source) (IsOk {T = T} (Err fault)) → SeesEnd a c (IsErrOf {T = U} (Err fault) faults.Source) (IsOk {T = U} (Err fault))
+sees_failed {T} {U} a b c fault f g = record {
+  stays = λ d. absurd (cc d);
+  whole = λ d. absurd (cc d);
+  going = λ e. (sees_more a b c (IsErrOf {T = T} (Err fault) faults.Source) (IsOk {T = T} (Err fault)) ⊤ tt f g).going (source_of e);
+}
+  where
+    source_of : IsErrOf {T = U} (Err fault) faults.Source → IsErrOf {T = T} (Err fault) faults.Source
+    source_of e = let is : fault ≡ faults.Source = cc e in ap (λ (x : WorkFault). Err x) is
 
 -- whole lines were read up to a place where the source hadn't ended
 pub whole_unended : (a b : Outside) (failed done : Type 0) → done → SeesEnd a b failed done → b.source_ended ≡ false → ReadsWhole a.script b.script

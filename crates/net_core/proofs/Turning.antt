@@ -1,5 +1,6 @@
 -- The steps of a list so far, and where they stop.
-use Rattle.std.proofs.Common.{IsOk, OnErr, IsErrOf, ◌≡◌, ◌⊎◌, inl, inr, ⊤, ℕ, ◌+◌, ◌<◌, ◌≤◌, Bool, List, [], ◌∷◌, ◌++◌, length, take, drop, get_or, Result, Ok, Err, refl, sym, ap, subst, ◌∙◌, add-one, append_assoc, take-append-drop, drop-cons}
+use Rattle.std.proofs.Common.{IsOk, OnErr, IsErrOf, ◌≡◌, ◌⊎◌, inl, inr, ℕ, ◌+◌, ◌<◌, ◌≤◌, Bool, List, [], ◌∷◌, ◌++◌, length, take, drop, get_or, Result, Ok, Err, refl, sym, ap, subst, ◌∙◌, add-one, append_assoc, take-append-drop, drop-cons}
+use Rattle.std.specs.Prelude.{⊤}
 use Rattle.std.proofs.lemmas.List.{take_all}
 use Rattle.net_core.specs.Causes.{most_script}
 use Rattle.net_core.specs.declared.fault.WorkFault.{WorkFault}
@@ -53,21 +54,21 @@ none_done capacity n o h one serves numbers = record {
   database = database_same o;
 }
 
-pub one_more_done : (capacity capacity' : ℕ) (turns : List ℕ) (i : ℕ) (blocked : Bool) (a b c : Shape quel_sorts) (o o' o'' : Outside) (h h' h'' one one' one'' : ℕ) (serves serves' serves'' : User → Type 0) (numbers numbers' numbers'' failed : Type 0) (mode : Mode quel_sorts) →
+pub one_more_done : (capacity capacity' : ℕ) (turns : List ℕ) (i : ℕ) (blocked : Bool) (a b c : Shape quel_sorts) (o o' o'' : Outside) (h h' h'' one one' one'' : ℕ) (serves serves' serves'' : User → Type 0) (numbers numbers' numbers'' failed done : Type 0) (mode : Mode quel_sorts) → done →
     capacity' ≡ capacity → i < length turns → TurnsDone capacity (take i turns) a b o o' h h' one one' serves serves' numbers numbers' →
     ((user : User) → serves' user → Moves (quel user) capacity' (stage_number (get_or turns i 0)) blocked (seen b o') (seen c o'')) →
-    ((user : User) → serves' user → serves'' user) → (numbers' → numbers'') → Later o' o'' → ReadsOn mode h' h'' o' o'' failed ⊤ → (numbers' → one' ≤ most_script → one'' ≤ most_script) → counts o'' ≡ counts o' → KeepsDatabase o' o'' →
+    ((user : User) → serves' user → serves'' user) → (numbers' → numbers'') → Later o' o'' → ReadsOn mode h' h'' o' o'' failed done → (numbers' → one' ≤ most_script → one'' ≤ most_script) → counts o'' ≡ counts o' → KeepsDatabase o' o'' →
     TurnsDone capacity (take (i + 1) turns) a c o o'' h h'' one one'' serves serves'' numbers numbers''
-one_more_done capacity capacity' turns i blocked a b c o o' o'' h h' h'' one one' one'' serves serves' serves'' numbers numbers' numbers'' failed mode e lt d moves serve numbered later reads within same database = record {
+one_more_done capacity capacity' turns i blocked a b c o o' o'' h h' h'' one one' one'' serves serves' serves'' numbers numbers' numbers'' failed done mode y e lt d moves serve numbered later reads within same database = record {
   runs = λ user x. one_more (quel user) capacity turns i blocked (seen a o) (seen b o') (seen c o'') lt (d.runs user x) (subst (λ (n : ℕ). Moves (quel user) n (stage_number (get_or turns i 0)) blocked (seen b o') (seen c o'')) e (moves user (d.serve user x)));
   serve = λ user x. serve user (d.serve user x);
   numbered = λ x. numbered (d.numbered x);
   later = later_more o o' o'' d.later later;
-  script = script_more h h' h'' o o' o'' d.script (script_of mode h' h'' o' o'' failed ⊤ reads);
+  script = script_more h h' h'' o o' o'' d.script (script_of mode h' h'' o' o'' failed done reads);
   given = heard_more h h' h'' o.given o'.given o''.given d.given reads.given;
   within = λ x le. within (d.numbered x) (d.within x le);
   counts = same ∙ d.counts;
-  over = let s = sees_more o o' o'' failed ⊤ ⊤ tt d.over reads.over in record { stays = s.stays; whole = s.whole; going = λ f. absurd f };
+  over = let s = sees_more o o' o'' failed done ⊤ tt d.over reads.over in record { stays = λ t. s.stays y; whole = λ t. s.whole y; going = λ f. absurd f };
   database = database_more o o' o'' d.database database;
 }
 
@@ -125,7 +126,7 @@ turns_stopped {T} fault capacity turns i a b o o' after h h' h'' one one' serves
     source e = ap (λ (f : WorkFault). Err f) e
     asked : ReadsScript (state_at b (stage_number (get_or turns i 0))).mode ⊎ ReadsNothing h' h'' o' after (IsErrOf {T = T} (Err fault) faults.Source) → ReadsScript (state_at b (stage_number (get_or turns i 0))).mode ⊎ ReadsNothing h' h'' o' after (fault ≡ faults.Source)
     asked (inl s) = inl s
-    asked (inr n) = inr (record { heard = n.heard; script = n.script; fine = λ e. n.fine (source e) })
+    asked (inr n) = inr (record { unread = n.unread; script = n.script; fine = λ e. n.fine (source e) })
 
 -- stages with these numbers, by their list
 pub are_numbered : {A1 A2 A3 A4 : Type 0} (one : A1 → ℕ) (two : A2 → ℕ) (three : A3 → ℕ) (four : A4 → ℕ) (n : Net A1 A2 A3 A4) → numbers_by one two three four n ≡ 1 ∷ 2 ∷ 3 ∷ 4 ∷ [] → AreNumbered one two three four n

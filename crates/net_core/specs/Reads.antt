@@ -1,5 +1,5 @@
 -- What was read of the script.
-use Rattle.std.specs.Prelude.{◌≡◌, ◌⊎◌, ◌+◌, ◌-◌, ◌^◌, ◌≤◌, ◌++◌, [], ◌∷◌, ℕ, true, false, List, length, Some, Result, Ok, Err}
+use Rattle.std.specs.Prelude.{◌≡◌, ◌⊎◌, ◌+◌, ◌-◌, ◌^◌, ◌≤◌, ◌++◌, [], ◌∷◌, ℕ, true, false, List, length, Some, Result, Ok, Err, ⊤}
 use Rattle.std.specs.List.{list_all}
 use Rattle.std.specs.declared.option.Option.{Option}
 use Rattle.net_core.specs.Causes.{most_script}
@@ -8,6 +8,7 @@ use Rattle.net_core.specs.declared.fault.WorkFault.TheVariants as faults
 use Rattle.net_core.specs.Known.{Outside}
 use Rattle.network_meaning.specs.LocalSteps.{Mode, Mode.reading}
 use Rattle.quel_meaning.specs.Lines.{is_no_newline}
+use Rattle.quel_meaning.specs.OpenFiles.{OpenFiles}
 use Rattle.quel_network.specs.Sorts.{quel_sorts}
 
 -- what was read, and counted, is a front of the first line: bytes of which none is a newline, and behind them at most one byte
@@ -22,14 +23,20 @@ ReadsNoLine script left = (front : List ℕ) × (rest : List ℕ) × (left ≡ S
 abbrev pub CountsHeard : ℕ → ℕ → ℕ → ℕ → Type 0
 CountsHeard heard heard' given given' = (n : ℕ) × (heard' ≡ heard + n) × ((given' ≡ given + n) ⊎ (2 ^ 64 - 1 ≤ given'))
 
--- the monitor reads, and neither is a file open nor anything left of the present line: so its next line is the script's
+-- no open file has a line left
+abbrev pub NoLineOpen : OpenFiles → Type 0
+NoLineOpen [] = ⊤
+NoLineOpen ([] ∷ files) = NoLineOpen files
+NoLineOpen ((line ∷ lines) ∷ files) = ⊥
+
+-- the monitor reads, and neither has an open file a line left nor is anything left of the present line: so its next line is the script's
 abbrev pub ReadsScript : Mode quel_sorts → Type 0
-ReadsScript (reading m) = (m.parts ≡ []) × (m.files ≡ [])
+ReadsScript (reading m) = (m.parts ≡ []) × NoLineOpen m.files
 ReadsScript _ = ⊥
 
 -- nothing of the script was read, and the source didn't fail
 pub record ReadsNothing (heard heard' : ℕ) (before after : Outside) (failed : Type 0) : Type 0 where
-  pub heard : heard' ≡ heard
+  pub unread : heard' ≡ heard
   pub script : after.script ≡ before.script
   pub fine : failed → ⊥
 

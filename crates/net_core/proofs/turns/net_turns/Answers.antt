@@ -1,5 +1,5 @@
 use Rattle.std.proofs.Common.{◌≡◌, Err, refl, ◌∙◌, arith, rules}
-use Rattle.net_core.proofs.Faulty.{counts_from, heard_more, script_more, script_of}
+use Rattle.net_core.proofs.Faulty.{counts_from, heard_more, script_more, script_of, sees_failed}
 use Rattle.net_core.specs.Known.{outside}
 use Rattle.net_core.proofs.Crashing.{no_turn, one_more_turn, turns_leave}
 use Rattle.net_core.proofs.Turning.{are_numbered, none_done, one_more_done, turns_disorderly, turns_failed, turns_finish, turns_keep, turns_lead, turns_stopped}
@@ -10,7 +10,7 @@ loop-k-init g c = (none_done _ _ _ _ _ _ _, refl, no_turn _ _ _ _ _ _)
 
 pub loop-k-preserved : goal.loop-k-preserved
 loop-k-preserved g c = (
-  one_more_done _ _ _ _ _ _ _ _ _ _ _ _ _ _ _ _ _ _ _ _ _ _ _ _ _ c.loop-k.invariant.1 c.loop-k-test.true c.loop-k.invariant.0 c.in_ok-net_step.ensures.steps
+  one_more_done _ _ _ _ _ _ _ _ _ _ _ _ _ _ _ _ _ _ _ _ _ _ _ _ _ _ refl c.loop-k.invariant.1 c.loop-k-test.true c.loop-k.invariant.0 c.in_ok-net_step.ensures.steps
       c.in_ok-net_step.ensures.serve c.in_ok-net_step.ensures.numbers c.in_ok-net_step.ensures.later c.in_ok-net_step.ensures.reads c.in_ok-net_step.ensures.within c.in_ok-net_step.ensures.counts c.in_ok-net_step.ensures.database,
   c.in_ok-net_step.ensures.capacity ∙ c.loop-k.invariant.1,
   one_more_turn _ _ _ _ _ _ _ _ _ _ _ _ _ _ _ _ _ _ _ _ _ _ c.loop-k-test.true c.loop-k.invariant.0 c.loop-k.invariant.2
@@ -58,15 +58,23 @@ pub returns-clause-counts : goal.returns-clause-counts
 returns-clause-counts g c = c.loop-k.invariant.0.counts
 
 pub returns-clause-over : goal.returns-clause-over
-returns-clause-over g c = let s = c.loop-k.invariant.0.over in record { stays = s.stays; whole = s.whole; going = λ f. absurd f }
+returns-clause-over g c = let s = c.loop-k.invariant.0.over in record { stays = λ d. s.stays tt; whole = λ d. s.whole tt; going = λ f. absurd (cc f) }
 
 pub returns-in_err-net_step-clause-heard : goal.returns-in_err-net_step-clause-heard
 returns-in_err-net_step-clause-heard g c = script_more _ _ _
     (outside g.B.Base.database g.B.Base.faults g.B.Base.clock g.B.Base.reads g.H.Shelf.files g.H.Shelf.faults g.S.Source.left g.S.Source.given g.S.Source.faults g.S.Source.ended g.K.Sink.written g.K.Sink.faults g.K.Sink.stalls c.args.room.now)
     (outside g.B.Base.database g.B.Base.faults g.B.Base.clock g.B.Base.reads g.H.Shelf.files g.H.Shelf.faults g.S.Source.left g.S.Source.given g.S.Source.faults g.S.Source.ended g.K.Sink.written g.K.Sink.faults g.K.Sink.stalls c.loop-k.room)
-    (outside g.B.Base.database g.B.Base.faults g.B.Base.clock g.B.Base.reads g.H.Shelf.files g.H.Shelf.faults g.S.Source.left g.S.Source.given g.S.Source.faults g.S.Source.ended g.K.Sink.written g.K.Sink.faults g.K.Sink.stalls c.net_step.new.room) c.loop-k.invariant.0.script (script_of _ _
+    (outside g.B.Base.database g.B.Base.faults g.B.Base.clock g.B.Base.reads g.H.Shelf.files g.H.Shelf.faults g.S.Source.left g.S.Source.given g.S.Source.faults g.S.Source.ended g.K.Sink.written g.K.Sink.faults g.K.Sink.stalls c.net_step.new.room) c.loop-k.invariant.0.script (script_of _ _ _
     (outside g.B.Base.database g.B.Base.faults g.B.Base.clock g.B.Base.reads g.H.Shelf.files g.H.Shelf.faults g.S.Source.left g.S.Source.given g.S.Source.faults g.S.Source.ended g.K.Sink.written g.K.Sink.faults g.K.Sink.stalls c.loop-k.room)
-    (outside g.B.Base.database g.B.Base.faults g.B.Base.clock g.B.Base.reads g.H.Shelf.files g.H.Shelf.faults g.S.Source.left g.S.Source.given g.S.Source.faults g.S.Source.ended g.K.Sink.written g.K.Sink.faults g.K.Sink.stalls c.net_step.new.room) _ c.in_err-net_step.ensures.reads)
+    (outside g.B.Base.database g.B.Base.faults g.B.Base.clock g.B.Base.reads g.H.Shelf.files g.H.Shelf.faults g.S.Source.left g.S.Source.given g.S.Source.faults g.S.Source.ended g.K.Sink.written g.K.Sink.faults g.K.Sink.stalls c.net_step.new.room) _ _ c.in_err-net_step.ensures.reads)
+
+pub returns-in_err-net_step-clause-over : goal.returns-in_err-net_step-clause-over
+returns-in_err-net_step-clause-over g c =
+    let is : c.from_residual.result ≡ Err c.in_err-net_step.field-0.0 = search rules in
+    rw is (sees_failed
+    (outside g.B.Base.database g.B.Base.faults g.B.Base.clock g.B.Base.reads g.H.Shelf.files g.H.Shelf.faults g.S.Source.left g.S.Source.given g.S.Source.faults g.S.Source.ended g.K.Sink.written g.K.Sink.faults g.K.Sink.stalls c.args.room.now)
+    (outside g.B.Base.database g.B.Base.faults g.B.Base.clock g.B.Base.reads g.H.Shelf.files g.H.Shelf.faults g.S.Source.left g.S.Source.given g.S.Source.faults g.S.Source.ended g.K.Sink.written g.K.Sink.faults g.K.Sink.stalls c.loop-k.room)
+    (outside g.B.Base.database g.B.Base.faults g.B.Base.clock g.B.Base.reads g.H.Shelf.files g.H.Shelf.faults g.S.Source.left g.S.Source.given g.S.Source.faults g.S.Source.ended g.K.Sink.written g.K.Sink.faults g.K.Sink.stalls c.net_step.new.room) c.in_err-net_step.field-0.0 c.loop-k.invariant.0.over c.in_err-net_step.ensures.reads.over)
 
 pub returns-in_err-net_step-clause-given : goal.returns-in_err-net_step-clause-given
 returns-in_err-net_step-clause-given g c = heard_more _ _ _ _ _ _ c.loop-k.invariant.0.given c.in_err-net_step.ensures.reads.given
