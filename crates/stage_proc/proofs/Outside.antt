@@ -1,6 +1,6 @@
 -- What a piece of work that only asks the base leaves of the outside.
 use Rattle.std.proofs.Common.{◌≡◌, ◌≤◌, ◌⊎◌, inl, inr, refl, sym, ap, subst, ◌∙◌, ℕ, Bool, true, false, List, [], Some, Result, Ok, Err, IsErrOf, OnOk, arith}
-use Rattle.std.specs.Prelude.{OnErr}
+use Rattle.std.specs.Prelude.{IsOk, OnErr}
 use Rattle.std.proofs.lemmas.List.{append-nil}
 use Rattle.std.proofs.KnownBytes.{Appends-nil}
 use Rattle.std.proofs.lemmas.Option.{same_Some}
@@ -9,7 +9,7 @@ use Rattle.base_trait.proofs.Crashes.{asked_leaves, still_stands}
 use Rattle.base_trait.specs.Crashes.{AllDenote, LeavesBut}
 use Rattle.calculus.specs.Database.{Db}
 use Rattle.frame_codec.specs.declared.frame.Frame.{Frame}
-use Rattle.net_core.proofs.Faulty.{reads_nothing, within_nothing}
+use Rattle.net_core.proofs.Faulty.{no_source, reads_nothing, within_nothing}
 use Rattle.net_core.specs.Causes.{IsCaused, MayCome, MayNotWork}
 use Rattle.net_core.specs.Crashes.{MayLeave, QuietWithout, StaysDurable, WorkLeaves}
 use Rattle.net_core.specs.declared.fault.WorkFault.{WorkFault}
@@ -120,8 +120,8 @@ module _ (o : Outside) (db' : Option Db) (n' k' reads' : ℕ) where
   pub leaves_ends : {T : Type 0} (r : Result T WorkFault) → HasWorkCause o.database o.base_faults n' r → LeavesEnds {T = T} 0 0 o (asked_of o db' n' k' reads') r
   leaves_ends r h = record { same = refl; unread = refl; inside = inside r h }
 
-  pub reads : (failed : Type 0) → ReadsOn 0 0 o (asked_of o db' n' k' reads') failed
-  reads failed = reads_nothing 0 o (asked_of o db' n' k' reads') failed refl refl
+  pub reads : {T : Type 0} (mode : Mode quel_sorts) (r : Result T WorkFault) → HasWorkCause o.database o.base_faults n' r → ReadsOn mode 0 0 o (asked_of o db' n' k' reads') (IsErrOf r faults.Source) (IsOk r)
+  reads mode r h = reads_nothing mode 0 o (asked_of o db' n' k' reads') (IsErrOf r faults.Source) (IsOk r) refl refl refl (no_source r (inside r h))
 
   -- ---- crashes
 

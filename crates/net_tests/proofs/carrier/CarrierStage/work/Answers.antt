@@ -1,5 +1,5 @@
 use Rattle.std.proofs.Common.{Err, refl}
-use Rattle.net_core.proofs.Faulty.{reads_nothing, within_apart}
+use Rattle.net_core.proofs.Faulty.{no_source, reads_nothing, within_apart}
 use Rattle.net_core.specs.Known.{outside}
 use Rattle.net_tests.proofs.Carrying.{cause_err, changed, counts_err, crash_any, durable_ok, failed_err, holds_it, inside_err, never_unlawful, quiet_any, spares_err, works_ok}
 use Rattle.net_tests.proofs.carrier.CarrierStage.work.Goals as goal
@@ -17,10 +17,10 @@ pub returns-in-Ok-clause-handed : goal.returns-in-Ok-clause-handed
 returns-in-Ok-clause-handed g c = λ works turn away. c.in-Ok.ensures.done.handed
 
 pub returns-in-Ok-clause-reads : goal.returns-in-Ok-clause-reads
-returns-in-Ok-clause-reads g c = reads_nothing 0 _ _ _ refl refl
+returns-in-Ok-clause-reads g c = reads_nothing _ 0 _ _ _ _ refl refl refl (λ e. cc e)
 
 pub returns-in-Err-clause-reads : goal.returns-in-Err-clause-reads
-returns-in-Err-clause-reads g c = reads_nothing 0 _ _ _ refl refl
+returns-in-Err-clause-reads g c = reads_nothing _ 0 _ _ _ _ refl refl refl (no_source {T = Unit {0}} (Err c.in-Err.fault) (inside_err (g.B.Base.database c.args.room.now.base) (g.B.Base.faults c.args.room.now.base) (g.B.Base.faults c.carry_out.new.base) c.in-Err.fault c.in-Err.ensures.done.cause))
 
 pub returns-in-Ok-clause-crash : goal.returns-in-Ok-clause-crash
 returns-in-Ok-clause-crash g c = λ user served. crash_any user c.args.self.now.stand (outside g.B.Base.database g.B.Base.faults g.B.Base.clock g.B.Base.reads g.H.Shelf.files g.H.Shelf.faults g.S.Source.left g.S.Source.given g.S.Source.faults g.S.Source.ended g.K.Sink.written g.K.Sink.faults g.K.Sink.stalls c.args.room.now) (g.B.Base.database c.carry_out.new.base) (g.B.Base.schema c.carry_out.new.base) (g.B.Base.faults c.carry_out.new.base) (g.B.Base.clock c.carry_out.new.base) (g.B.Base.reads c.carry_out.new.base) (g.B.Base.left_since c.args.room.now.base) (g.B.Base.left_since c.carry_out.new.base) _ (holds_it c.args.self.now.stand c.requires) c.in-Ok.ensures.done

@@ -1,5 +1,5 @@
 use Rattle.std.proofs.Common.{refl}
-use Rattle.net_core.proofs.Faulty.{reads_nothing}
+use Rattle.net_core.proofs.Faulty.{no_source, reads_nothing}
 use Rattle.net_core.specs.Known.{Outside, outside}
 use Rattle.quel_network.specs.Quel.{quel}
 use Rattle.stage_parse.proofs.AtWork.{cause_any, changed, counts_any, crash_any, database_any, durable_any, failed_any, inside_any, lawful_any, on_ok_to, spares_any, within_any, works_any}
@@ -44,7 +44,7 @@ returns-clause-spares g c =
 
 pub returns-clause-reads : goal.returns-clause-reads
 returns-clause-reads g c =
-    reads_nothing 0 _ _ _ refl refl
+    reads_nothing _ 0 _ _ _ _ refl refl refl (no_source c.parse_on.result (inside_any (g.B.Base.database c.args.room.now.base) (g.B.Base.faults c.args.room.now.base) (g.B.Base.faults c.parse_on.new.base) c.parse_on.result c.parse_on.ensures.cause))
 
 pub returns-clause-within : goal.returns-clause-within
 returns-clause-within g c =

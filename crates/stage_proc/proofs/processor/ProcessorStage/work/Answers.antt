@@ -44,7 +44,7 @@ returns-clause-spares g c =
 
 pub returns-clause-reads : goal.returns-clause-reads
 returns-clause-reads g c =
-    lemma.reads (outside g.B.Base.database g.B.Base.faults g.B.Base.clock g.B.Base.reads g.H.Shelf.files g.H.Shelf.faults g.S.Source.left g.S.Source.given g.S.Source.faults g.S.Source.ended g.K.Sink.written g.K.Sink.faults g.K.Sink.stalls c.args.room.now) (g.B.Base.database c.work_on.new.base) (g.B.Base.faults c.work_on.new.base) (g.B.Base.clock c.work_on.new.base) (g.B.Base.reads c.work_on.new.base) _
+    lemma.reads (outside g.B.Base.database g.B.Base.faults g.B.Base.clock g.B.Base.reads g.H.Shelf.files g.H.Shelf.faults g.S.Source.left g.S.Source.given g.S.Source.faults g.S.Source.ended g.K.Sink.written g.K.Sink.faults g.K.Sink.stalls c.args.room.now) (g.B.Base.database c.work_on.new.base) (g.B.Base.faults c.work_on.new.base) (g.B.Base.clock c.work_on.new.base) (g.B.Base.reads c.work_on.new.base) (standing c.args.self.now.at c.args.self.now.got c.args.self.now.left c.args.self.now.right).mode c.work_on.result c.work_on.ensures.cause
 
 pub returns-clause-within : goal.returns-clause-within
 returns-clause-within g c =

@@ -1,5 +1,5 @@
 use Rattle.std.proofs.Common.{Ok, Err, refl}
-use Rattle.net_core.proofs.Faulty.{reads_nothing, within_apart}
+use Rattle.net_core.proofs.Faulty.{no_source, reads_nothing, within_apart}
 use Rattle.net_core.specs.Known.{Outside, outside}
 use Rattle.stage_util.proofs.AtWork.{cause_err, counts_err, counts_ok, crash_any, database_ok, durable_ok, failed_err, handed_ok, inside_err, later_any, quiet_any, spares_err, unlawful_err, works_ok, is_working}
 use Rattle.stage_util.specs.Working.{After, outside_after}
@@ -86,7 +86,7 @@ returns-in-Ok-clause-reads g c =
       left_before = g.B.Base.left_since c.args.room.now.base;
       left_now = g.B.Base.left_since c.carry_out.new.base;
     } in
-    reads_nothing 0 _ _ _ refl refl
+    reads_nothing _ 0 _ _ _ _ refl refl refl (λ e. cc e)
 
 pub returns-in-Ok-clause-handed : goal.returns-in-Ok-clause-handed
 returns-in-Ok-clause-handed g c =
@@ -262,7 +262,7 @@ returns-in-Err-clause-reads g c =
       left_before = g.B.Base.left_since c.args.room.now.base;
       left_now = g.B.Base.left_since c.carry_out.new.base;
     } in
-    reads_nothing 0 _ _ _ refl refl
+    reads_nothing _ 0 _ _ _ _ refl refl refl (no_source {T = Unit {0}} (Err c.in-Err.fault) (inside_err o a c.in-Err.fault c.in-Err.ensures.cause))
 
 pub returns-in-Err-clause-within : goal.returns-in-Err-clause-within
 returns-in-Err-clause-within g c =
