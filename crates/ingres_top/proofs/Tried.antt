@@ -33,37 +33,37 @@ on_ok_some (Ok done) left P f = if_some left P f
 on_ok_some (Err fault) left P f = tt
 
 counts_source : (outcome : Result (Unit {0}) WorkFault) (old new : Outside) → CountsOnly old new outcome → (IsErrOf outcome faults.Source → ⊥) → new.source_faults ≡ old.source_faults
-counts_source (Ok done) old new c no = ap (λ (k : Counts). k.source) c
-counts_source (Err faults.Source) old new c no = absurd (no refl)
-counts_source (Err faults.Sink) old new c no = ap (λ (k : Counts). k.source) c
-counts_source (Err faults.Disk) old new c no = ap (λ (k : Counts). k.source) c
-counts_source (Err (faults.Damaged file page)) old new c no = ap (λ (k : Counts). k.source) c
-counts_source (Err faults.Shelf) old new c no = ap (λ (k : Counts). k.source) c
-counts_source (Err faults.TooLong) old new c no = ap (λ (k : Counts). k.source) c
-counts_source (Err faults.Unlawful) old new c no = ap (λ (k : Counts). k.source) c
-counts_source (Err faults.OutOfMemory) old new c no = ap (λ (k : Counts). k.source) c
+counts_source (Ok done) old new c other = ap (λ (k : Counts). k.source) c
+counts_source (Err faults.Source) old new c other = absurd (other refl)
+counts_source (Err faults.Sink) old new c other = ap (λ (k : Counts). k.source) c
+counts_source (Err faults.Disk) old new c other = ap (λ (k : Counts). k.source) c
+counts_source (Err (faults.Damaged file page)) old new c other = ap (λ (k : Counts). k.source) c
+counts_source (Err faults.Shelf) old new c other = ap (λ (k : Counts). k.source) c
+counts_source (Err faults.TooLong) old new c other = ap (λ (k : Counts). k.source) c
+counts_source (Err faults.Unlawful) old new c other = ap (λ (k : Counts). k.source) c
+counts_source (Err faults.OutOfMemory) old new c other = ap (λ (k : Counts). k.source) c
 
 counts_sink : (outcome : Result (Unit {0}) WorkFault) (old new : Outside) → CountsOnly old new outcome → (IsErrOf outcome faults.Sink → ⊥) → AreSame old.sink_faults new.sink_faults old.sink_stalls new.sink_stalls
-counts_sink (Ok done) old new c no = record { faults = ap (λ (k : Counts). k.sink) c; stalls = ap (λ (k : Counts). k.stalls) c }
-counts_sink (Err faults.Source) old new c no = record { faults = ap (λ (k : Counts). k.sink) c; stalls = ap (λ (k : Counts). k.stalls) c }
-counts_sink (Err faults.Sink) old new c no = absurd (no refl)
-counts_sink (Err faults.Disk) old new c no = record { faults = ap (λ (k : Counts). k.sink) c; stalls = ap (λ (k : Counts). k.stalls) c }
-counts_sink (Err (faults.Damaged file page)) old new c no = record { faults = ap (λ (k : Counts). k.sink) c; stalls = ap (λ (k : Counts). k.stalls) c }
-counts_sink (Err faults.Shelf) old new c no = record { faults = ap (λ (k : Counts). k.sink) c; stalls = ap (λ (k : Counts). k.stalls) c }
-counts_sink (Err faults.TooLong) old new c no = record { faults = ap (λ (k : Counts). k.sink) c; stalls = ap (λ (k : Counts). k.stalls) c }
-counts_sink (Err faults.Unlawful) old new c no = record { faults = ap (λ (k : Counts). k.sink) c; stalls = ap (λ (k : Counts). k.stalls) c }
-counts_sink (Err faults.OutOfMemory) old new c no = record { faults = ap (λ (k : Counts). k.sink) c; stalls = ap (λ (k : Counts). k.stalls) c }
+counts_sink (Ok done) old new c other = record { faults = ap (λ (k : Counts). k.sink) c; stalls = ap (λ (k : Counts). k.stalls) c }
+counts_sink (Err faults.Source) old new c other = record { faults = ap (λ (k : Counts). k.sink) c; stalls = ap (λ (k : Counts). k.stalls) c }
+counts_sink (Err faults.Sink) old new c other = absurd (other refl)
+counts_sink (Err faults.Disk) old new c other = record { faults = ap (λ (k : Counts). k.sink) c; stalls = ap (λ (k : Counts). k.stalls) c }
+counts_sink (Err (faults.Damaged file page)) old new c other = record { faults = ap (λ (k : Counts). k.sink) c; stalls = ap (λ (k : Counts). k.stalls) c }
+counts_sink (Err faults.Shelf) old new c other = record { faults = ap (λ (k : Counts). k.sink) c; stalls = ap (λ (k : Counts). k.stalls) c }
+counts_sink (Err faults.TooLong) old new c other = record { faults = ap (λ (k : Counts). k.sink) c; stalls = ap (λ (k : Counts). k.stalls) c }
+counts_sink (Err faults.Unlawful) old new c other = record { faults = ap (λ (k : Counts). k.sink) c; stalls = ap (λ (k : Counts). k.stalls) c }
+counts_sink (Err faults.OutOfMemory) old new c other = record { faults = ap (λ (k : Counts). k.sink) c; stalls = ap (λ (k : Counts). k.stalls) c }
 
 counts_shelf : (outcome : Result (Unit {0}) WorkFault) (old new : Outside) → CountsOnly old new outcome → (IsErrOf outcome faults.Shelf → ⊥) → new.shelf_faults ≡ old.shelf_faults
-counts_shelf (Ok done) old new c no = ap (λ (k : Counts). k.shelf) c
-counts_shelf (Err faults.Source) old new c no = ap (λ (k : Counts). k.shelf) c
-counts_shelf (Err faults.Sink) old new c no = ap (λ (k : Counts). k.shelf) c
-counts_shelf (Err faults.Disk) old new c no = ap (λ (k : Counts). k.shelf) c
-counts_shelf (Err (faults.Damaged file page)) old new c no = ap (λ (k : Counts). k.shelf) c
-counts_shelf (Err faults.Shelf) old new c no = absurd (no refl)
-counts_shelf (Err faults.TooLong) old new c no = ap (λ (k : Counts). k.shelf) c
-counts_shelf (Err faults.Unlawful) old new c no = ap (λ (k : Counts). k.shelf) c
-counts_shelf (Err faults.OutOfMemory) old new c no = ap (λ (k : Counts). k.shelf) c
+counts_shelf (Ok done) old new c other = ap (λ (k : Counts). k.shelf) c
+counts_shelf (Err faults.Source) old new c other = ap (λ (k : Counts). k.shelf) c
+counts_shelf (Err faults.Sink) old new c other = ap (λ (k : Counts). k.shelf) c
+counts_shelf (Err faults.Disk) old new c other = ap (λ (k : Counts). k.shelf) c
+counts_shelf (Err (faults.Damaged file page)) old new c other = ap (λ (k : Counts). k.shelf) c
+counts_shelf (Err faults.Shelf) old new c other = absurd (other refl)
+counts_shelf (Err faults.TooLong) old new c other = ap (λ (k : Counts). k.shelf) c
+counts_shelf (Err faults.Unlawful) old new c other = ap (λ (k : Counts). k.shelf) c
+counts_shelf (Err faults.OutOfMemory) old new c other = ap (λ (k : Counts). k.shelf) c
 
 rose_source : (outcome : Result (Unit {0}) WorkFault) (old new : Outside) → IsCaused 0 old new outcome → IsErrOf outcome faults.Source → Rose old.source_faults new.source_faults
 rose_source outcome old new c e = let h : IsCaused {T = Unit {0}} 0 old new (Err faults.Source) = subst (λ (x : Result (Unit {0}) WorkFault). IsCaused 0 old new x) e c in h
@@ -75,7 +75,7 @@ rose_shelf : (outcome : Result (Unit {0}) WorkFault) (old new : Outside) → IsC
 rose_shelf outcome old new c e = let h : IsCaused {T = Unit {0}} 0 old new (Err faults.Shelf) = subst (λ (x : Result (Unit {0}) WorkFault). IsCaused 0 old new x) e c in h
 
 -- the user whom the words name, as the grammar reads
-user_for : List ℕ → User
+abbrev user_for : List ℕ → User
 user_for user = record { asker = asker_of user; reading = next_at; grammatical = reads }
 
 -- ---- the clauses
@@ -85,7 +85,7 @@ module _ (user : List ℕ) (before after : Objects) (outcome : Result (Unit {0})
   moved : (P : Objects → Objects → Type 0) → P (objects_of t.old) (objects_of t.new) → P before after
   moved P h = subst (λ (a : Objects). P before a) t.left (subst (λ (b : Objects). P b (objects_of t.new)) t.began h)
 
-  room : Files → List ℕ → Room quel_sorts
+  abbrev room : Files → List ℕ → Room quel_sorts
   room files script = record { db = empty_db user; shelf = files; script = script; out = [] }
 
   knows : (files : Files) (script : List ℕ) → t.old.files ≡ Some files → t.old.script ≡ Some script → Knows (known t.old) (room files script)
