@@ -1,3 +1,4 @@
 mod Lists
 mod Making
 mod Turning
+pub mod Whole

@@ -1,5 +1,6 @@
 -- What turns of the stages have come to, wherever they began.
 use Rattle.std.specs.Prelude.{◌≡◌, ◌⊎◌, ◌∷◌, ◌++◌, ◌≤◌, ℕ, Bool, true, false, List, [], Result, Ok, Err, ⊤}
+use Rattle.std.specs.Io.KnownBytes.{prepend_known}
 use Rattle.calculus.specs.Who.{Asker}
 use Rattle.fault_io.specs.Known.{IsFront}
 use Rattle.net_core.specs.Causes.{MayCome, most_script}
@@ -91,6 +92,42 @@ RoundsDone serves capacity number old now (Err fault) =
     ((turns : List ℕ) × AreFirst number turns × Broke serves capacity turns old now fault)
     ⊎ ((fault ≡ faults.OutOfMemory) × (turns : List ℕ) × AreFirst number turns × Made serves capacity turns old now)
 
--- the same for the users of this asker, from the start on, to some position with the second outside
+-- the same for the users of this asker, from the start on, to where the second outside is
 abbrev pub RanAll : Asker → ℕ → Outside → Outside → Result (Unit {0}) WorkFault → Type 0
-RanAll asker number old new result = (now : Position) × (now.outside ≡ new) × RoundsDone (λ user. user.asker ≡ asker) (capacity_of number) number (at_start old) now result
+RanAll asker number old new result = (shape : Shape quel_sorts) × (heard : ℕ) × RoundsDone (λ user. user.asker ≡ asker) (capacity_of number) number (at_start old) (position shape new heard) result
+
+-- an outside, with a source in front of which no piece stands, and which has given nothing
+abbrev pub first_of : Outside → Outside
+first_of o = record {
+  database = o.database;
+  base_faults = o.base_faults;
+  clock = o.clock;
+  reads = o.reads;
+  files = o.files;
+  shelf_faults = o.shelf_faults;
+  script = prepend_known [] o.script;
+  given = 0;
+  source_faults = o.source_faults;
+  source_ended = false;
+  output = o.output;
+  sink_faults = o.sink_faults;
+  sink_stalls = o.sink_stalls;
+}
+
+-- an outside, with a source in front of which this piece stands, and which has given so much, and has ended or not
+abbrev pub kept_of : Outside → List ℕ → ℕ → Bool → Outside
+kept_of o piece given ended = record {
+  database = o.database;
+  base_faults = o.base_faults;
+  clock = o.clock;
+  reads = o.reads;
+  files = o.files;
+  shelf_faults = o.shelf_faults;
+  script = prepend_known piece o.script;
+  given = given;
+  source_faults = o.source_faults;
+  source_ended = ended;
+  output = o.output;
+  sink_faults = o.sink_faults;
+  sink_stalls = o.sink_stalls;
+}

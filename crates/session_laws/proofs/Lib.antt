@@ -4,5 +4,5 @@ mod Heard
 mod Cutting
 mod AtTheStart
 mod Reached
-mod Printed
-mod Stopped
+pub mod Printed
+pub mod Stopped
