@@ -1,4 +1,5 @@
 mod Lists
 mod Making
+mod Serving
 mod Turning
-pub mod Whole
+mod Whole

@@ -3,4 +3,8 @@
 #![tactic(auto)]
 
 mod rounds;
+mod session;
+mod stages;
 mod turn;
+
+pub use session::run_session;
