@@ -1,13 +1,13 @@
 -- Lists of turns: what is a front of what, and the turns of the rounds so far.
-use Rattle.std.proofs.Common.{◌≡◌, refl, sym, ap, subst, ◌∙◌, ℕ, zero, suc, ◌+◌, ◌-◌, ◌%◌, ◌/◌, ◌<◌, ◌≤◌, ◌==◌, ◌&&◌, Bool, true, false, List, [], ◌∷◌, ◌++◌, map, All, length, take, drop, get_or, add-one, append_assoc, append-nil, take-append-drop, drop-cons, arith}
-use Rattle.std.specs.Prelude.{replicate, nat_lt}
+use Rattle.std.proofs.Common.{◌≡◌, refl, sym, ap, subst, ◌∙◌, ℕ, zero, suc, ◌+◌, ◌-◌, ◌%◌, ◌/◌, ◌<◌, ◌≤◌, ◌==◌, ◌&&◌, Bool, true, false, List, [], ◌∷◌, ◌++◌, map, All, length, take, drop, get_or, add-one, append_assoc, append-nil, take-append-drop, arith}
+use Rattle.std.specs.Prelude.{replicate}
 use Rattle.std.specs.List.{concat, list_all}
-use Rattle.std.proofs.lemmas.List.{replicate_more, replicate-append-replicate, take_more, take_all}
+use Rattle.std.proofs.lemmas.List.{replicate_more, replicate-append-replicate, take_more}
 use Rattle.std.proofs.lemmas.List.Folds.{concat-append}
 use Rattle.std.proofs.lemmas.List.Sums.{AllPass-from_list_all}
 use Rattle.std.proofs.lemmas.Grind.{common_steps}
 use Rattle.fault_io.specs.Known.{IsFront}
-use Rattle.net_session.specs.Rounds.{AreFirst, round_of, turns_of}
+use Rattle.net_session.specs.Rounds.{round_of, turns_of}
 use Rattle.turns.specs.Rounds.{below, next_number, order_of, times_of}
 
 -- ---- fronts

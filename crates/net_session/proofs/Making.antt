@@ -1,5 +1,5 @@
 -- Turns that were made, one behind the other, up to one that failed or behind which all stages have ended.
-use Rattle.std.proofs.Common.{◌≡◌, refl, sym, ap, subst, ◌∙◌, inl, inr, ℕ, Bool, true, false, List, [], ◌∷◌, ◌++◌, Ok, Err, Result, append_assoc}
+use Rattle.std.proofs.Common.{◌≡◌, refl, sym, subst, ◌∙◌, ℕ, Bool, true, false, List, [], ◌∷◌, ◌++◌, Ok, append_assoc}
 use Rattle.std.specs.Prelude.{◌↔◌, IsTrue, ⊤}
 use Rattle.fault_io.specs.Known.{IsFront}
 use Rattle.net_core.proofs.Faulty.{database_more, database_same, heard_more, heard_same, later_more, later_same, script_more, script_same, sees_more, sees_nothing}

@@ -1,6 +1,5 @@
 -- One turn, by what the steps of a list promise.
-use Rattle.std.proofs.Common.{◌≡◌, refl, sym, ap, subst, ◌∙◌, inl, inr, ℕ, ◌+◌, List, [], ◌∷◌, Ok, Err, Result, IsOk, IsErrOf, OnOk, IfErr, arith}
-use Rattle.net_core.proofs.Turning.{are_numbered}
+use Rattle.std.proofs.Common.{◌≡◌, refl, ap, subst, ℕ, List, [], ◌∷◌, Ok, Err, Result, IsOk, IsErrOf, OnOk, IfErr, arith}
 use Rattle.net_core.specs.Causes.{IsCaused}
 use Rattle.net_core.specs.declared.fault.WorkFault.{WorkFault}
 use Rattle.net_core.specs.declared.fault.WorkFault.TheVariants as faults

@@ -1,8 +1,8 @@
 -- What a session has done, whose source keeps a piece of another.
-use Rattle.std.proofs.Common.{◌≡◌, ◌⊎◌, ◌+◌, ◌-◌, ◌^◌, ◌<◌, ◌≤◌, inl, inr, refl, sym, ap, subst, ◌∙◌, ℕ, Bool, false, List, [], ◌∷◌, ◌++◌, Some, None, Result, Ok, Err, IsErrOf, length, length-append, drop, drop-drop, arith}
+use Rattle.std.proofs.Common.{◌≡◌, ◌⊎◌, ◌+◌, ◌-◌, ◌^◌, ◌<◌, ◌≤◌, inl, inr, refl, sym, ap, subst, ◌∙◌, ℕ, Bool, List, [], ◌∷◌, ◌++◌, Some, None, Result, Ok, Err, length, length-append, drop, drop-drop, arith}
 use Rattle.std.proofs.Math.Seq.{drop-append_seam}
 use Rattle.std.proofs.lemmas.Option.{same_Some}
-use Rattle.std.specs.Prelude.{◌↔◌, ⊤}
+use Rattle.std.specs.Prelude.{⊤}
 use Rattle.std.specs.declared.option.Option.{Option}
 use Rattle.std.specs.Io.KnownBytes.{prepend_known}
 use Rattle.calculus.specs.Who.{Asker}
@@ -21,7 +21,7 @@ use Rattle.net_core.specs.Whole.{HaveEnded, StopsAt, seen, start_shape}
 use Rattle.net_session.proofs.Lists.{front_more}
 use Rattle.net_session.specs.Made.{Broke, Made, RanAll, RoundsDone, at_start, first_of, kept_of, position}
 use Rattle.net_session.specs.Rounds.{AreFirst, capacity_of, turns_of}
-use Rattle.net_session.specs.Runs.{Ran, RanBy}
+use Rattle.net_session.specs.Runs.{Ran}
 use Rattle.net_session.specs.Session.{KeptUp, SessionDone}
 use Rattle.network_meaning.proofs.Ends.{start_orderly}
 use Rattle.network_meaning.proofs.Runs.{runs_keeps}
@@ -32,7 +32,7 @@ use Rattle.quel_network.specs.Quel.{quel}
 use Rattle.quel_network.specs.Sorts.{User, first_monitor, quel_sorts}
 use Rattle.session_laws.proofs.Printed.{run_ended, run_keeps_up, run_partly}
 use Rattle.session_laws.proofs.Stopped.{stop_broken, stop_cut, stop_keeps_up, stop_partly}
-use Rattle.session_laws.specs.Heard.{AllDone, BrokenOff, IsBrokenOff, IsPartly}
+use Rattle.session_laws.specs.Heard.{AllDone, BrokenOff, IsBrokenOff}
 use Rattle.session_laws.specs.Heard.{KeptUp as KeptUpBut}
 
 -- ---- a piece in front

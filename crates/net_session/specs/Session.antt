@@ -1,5 +1,5 @@
 -- What a session comes to, as a whole.
-use Rattle.std.specs.Prelude.{◌≡◌, ◌⊎◌, ◌↔◌, ◌+◌, ◌<◌, ◌≤◌, ℕ, false, List, Some, Result, Ok, Err, OnOk, IsErrOf, drop, length}
+use Rattle.std.specs.Prelude.{◌≡◌, ◌↔◌, ◌+◌, ◌<◌, ◌≤◌, ℕ, false, List, Some, Result, OnOk, IsErrOf, drop, length}
 use Rattle.std.specs.declared.option.Option.{Option}
 use Rattle.calculus.specs.Who.{Asker}
 use Rattle.fault_io.specs.Known.{GrewBy, IsFront}

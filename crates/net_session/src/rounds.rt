@@ -69,7 +69,16 @@ fn turns_of_all<A1: Stage, A2: Stage, A3: Stage, A4: Stage, B: Base, H: Shelf, S
 
 /// Rounds of turns behind a number, until all stages have ended. They are counted; where no more can be
 /// counted, the answer is want of memory.
-pub(crate) fn run_rounds<A1: Stage, A2: Stage, A3: Stage, A4: Stage, B: Base, H: Shelf, S: Source, K: Sink>(
+pub(crate) fn run_rounds<
+    A1: Stage,
+    A2: Stage,
+    A3: Stage,
+    A4: Stage,
+    B: Base,
+    H: Shelf,
+    S: Source,
+    K: Sink,
+>(
     alloc: Global,
     net: &mut Net<A1, A2, A3, A4>,
     room: &mut Room<B, H, S, K>,

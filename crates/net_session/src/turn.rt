@@ -12,7 +12,16 @@ use net_core::{Net, Room, Stage, WorkFault, net_turns};
 use std::alloc::Global;
 
 /// One turn of the stage with this number.
-pub(crate) fn one_turn<A1: Stage, A2: Stage, A3: Stage, A4: Stage, B: Base, H: Shelf, S: Source, K: Sink>(
+pub(crate) fn one_turn<
+    A1: Stage,
+    A2: Stage,
+    A3: Stage,
+    A4: Stage,
+    B: Base,
+    H: Shelf,
+    S: Source,
+    K: Sink,
+>(
     alloc: Global,
     net: &mut Net<A1, A2, A3, A4>,
     room: &mut Room<B, H, S, K>,

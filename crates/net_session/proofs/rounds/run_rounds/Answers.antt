@@ -1,4 +1,4 @@
-use Rattle.std.proofs.Common.{◌≡◌, ◌∙◌, ◌+◌, ap, inl, List, ℕ, Err, refl, rules}
+use Rattle.std.proofs.Common.{◌≡◌, ◌∙◌, ◌+◌, ap, inl, Err, refl, rules}
 use Rattle.net_session.proofs.Lists.{after_more, front_is, front_whole, order_of_stages, turns_next}
 use Rattle.net_session.proofs.Making.{broke_behind, ended_behind, ended_of, made_more, made_of, nothing_made}
 use Rattle.net_session.proofs.rounds.run_rounds.Goals as goal
@@ -27,11 +27,13 @@ pub returns-in_err-turns_of_all : goal.returns-in_err-turns_of_all
 returns-in_err-turns_of_all g c =
     let next = turns_next c.loop.counter c.args.number c.loop.x c.turns_round-y.result.2 c.turns_round-y.result.1 c.loop.invariant.number c.turns_round-y.ensures.order c.turns_round-y.ensures.times in
     let is : c.from_residual.result ≡ Err c.in_err-turns_of_all.field-0.0 = search rules in
-    rw is (record { done = inl (
-      turns_of (c.loop.counter + 1) c.args.number,
-      (c.loop.counter + 1, front_whole _),
-      broke_behind _ _ _ _ _ _ _ _ _ _ c.in_err-turns_of_all.field-0.0 c.loop.invariant.capacity (front_is _ _ next) c.loop.invariant.serve c.loop.invariant.made c.in_err-turns_of_all.ensures.done,
-    ) })
+    rw is (record {
+      done = inl (
+        turns_of (c.loop.counter + 1) c.args.number,
+        (c.loop.counter + 1, front_whole _),
+        broke_behind _ _ _ _ _ _ _ _ _ _ c.in_err-turns_of_all.field-0.0 c.loop.invariant.capacity (front_is _ _ next) c.loop.invariant.serve c.loop.invariant.made c.in_err-turns_of_all.ensures.done,
+      );
+    })
 
 pub returns-then-branch : goal.returns-then-branch
 returns-then-branch g c =
