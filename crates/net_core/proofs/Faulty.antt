@@ -205,6 +205,7 @@ sees_more a b c failed done first y f g = record {
     joined d (inr e) w = inr (g.stays d e)
     joined d (inl w) (inl v) = inl (whole_more a.script b.script c.script w v)
     joined d (inl w) (inr e) = inr e
+
     earlier : (was : Bool) → a.source_ended ≡ was → b.source_ended ≡ false → a.source_ended ≡ false
     earlier false is e = is
     earlier true is e = absurd (let still = f.stays y is in cc (still, e))

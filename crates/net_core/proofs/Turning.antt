@@ -124,6 +124,7 @@ turns_stopped {T} fault capacity turns i a b o o' after h h' h'' one one' serves
   where
     source : fault ≡ faults.Source → IsErrOf {T = T} (Err fault) faults.Source
     source e = ap (λ (f : WorkFault). Err f) e
+
     asked : ReadsScript (state_at b (stage_number (get_or turns i 0))).mode ⊎ ReadsNothing h' h'' o' after (IsErrOf {T = T} (Err fault) faults.Source) → ReadsScript (state_at b (stage_number (get_or turns i 0))).mode ⊎ ReadsNothing h' h'' o' after (fault ≡ faults.Source)
     asked (inl s) = inl s
     asked (inr n) = inr (record { unread = n.unread; script = n.script; fine = λ e. n.fine (source e) })
