@@ -1,9 +1,9 @@
 -- The end of the source, and when it was asked.
-use Rattle.std.proofs.Common.{◌≡◌, ◌⊎◌, inl, inr, refl, sym, subst, ◌∙◌, ℕ, Bool, true, false, List, [], ◌∷◌, ◌++◌, Some, None, Result, Ok, Err, IfErr, IsErrOf, IsOk, append_assoc}
+use Rattle.std.proofs.Common.{◌≡◌, ◌⊎◌, inl, inr, refl, sym, ap, subst, ◌∙◌, ℕ, Bool, true, false, List, [], ◌∷◌, ◌++◌, Some, None, Result, Ok, Err, IfErr, IsErrOf, append_assoc}
 use Rattle.std.specs.declared.option.Option.{Option}
 use Rattle.net_core.specs.declared.fault.WorkFault.{WorkFault}
 use Rattle.net_core.specs.declared.fault.WorkFault.TheVariants as faults
-use Rattle.net_core.specs.Reads.{NoLineOpen, ReadsScript, ReadsWhole}
+use Rattle.net_core.specs.Reads.{NoLineOpen, ReadsScript}
 use Rattle.net_core.proofs.Faulty.{whole_same}
 use Rattle.network_meaning.specs.LocalSteps.{Mode.reading}
 use Rattle.quel_meaning.specs.OpenFiles.{OpenFiles}
