@@ -1,6 +1,6 @@
 //! The fourth stage.
 
-ghost use Rattle.std.specs.Prelude.{◌≡◌, []};
+ghost use Rattle.std.specs.Prelude.{◌≡◌};
 ghost use Rattle.calculus.specs.Who.{asker_of};
 ghost use Rattle.network_meaning.specs.LocalSteps.{Mode.idle4};
 ghost use Rattle.network_meaning.specs.Network.{quiet_at};
@@ -40,7 +40,7 @@ impl Utilities {
     /// The utilities of a user, with nothing to carry out.
     pub fn new(alloc: Global, user: Name) -> Utilities
         ensures state { ⟦<Utilities as Stage>⟧.state result ≡ quiet_at idle4 }
-        ensures serves { (who : User) → who.asker ≡ asker_of user → ⟦<Utilities as Stage>⟧.serves result who }
+        ensures serves { (whom : User) → whom.asker ≡ asker_of user → ⟦<Utilities as Stage>⟧.serves result whom }
         ensures place { ⟦<Utilities as Stage>⟧.place result ≡ 4 }
         ensures heard { ⟦<Utilities as Stage>⟧.heard result ≡ 0 }
     {
