@@ -1,5 +1,5 @@
 -- What a tree comes to, as the work of the network.
-use Rattle.std.proofs.Common.{◌≡◌, inl, inr, true, refl, sym, ap, subst, ◌∙◌, append_assoc, ℕ, List, [], ◌∷◌, ◌++◌, map, Some, Result, Ok, Err, IsErrOf, OnOk}
+use Rattle.std.proofs.Common.{◌≡◌, inl, inr, true, refl, sym, ap, subst, ◌∙◌, append_assoc, ℕ, List, [], ◌∷◌, ◌++◌, map, Some, Result, Ok, Err, IsErrOf}
 use Rattle.std.specs.Prelude.{IfErr}
 use Rattle.std.proofs.lemmas.List.{append-nil}
 use Rattle.std.specs.declared.option.Option.{Option}
@@ -13,12 +13,12 @@ use Rattle.calculus.specs.declared.request.Checked.{Checked}
 use Rattle.calculus.specs.declared.request.Checked.TheVariants as checked
 use Rattle.calculus.specs.declared.request.Update.{Update}
 use Rattle.calculus.specs.declared.request.Utility.{Utility}
-use Rattle.calculus.specs.Change.{IsLawful, laid}
+use Rattle.calculus.specs.Change.{laid}
 use Rattle.calculus.specs.Database.{Db}
 use Rattle.calculus.specs.IsDatabase.{IsDatabase}
 use Rattle.calculus.specs.Replacement.{updated}
 use Rattle.calculus.specs.Rows.{Row}
-use Rattle.calculus.specs.Who.{Asker, Unrestricted, asker_of}
+use Rattle.calculus.specs.Who.{Asker, Unrestricted}
 use Rattle.fault_io.specs.Files.{Files}
 use Rattle.frame_codec.specs.declared.frame.Frame.{Frame}
 use Rattle.frame_codec.specs.Messages.{message_frames}
@@ -28,11 +28,11 @@ use Rattle.net_core.specs.declared.fault.WorkFault.TheVariants as faults
 use Rattle.network_meaning.specs.Frames.{spell}
 use Rattle.network_meaning.specs.Language.{tops}
 use Rattle.network_meaning.specs.Laws.{RowsFit, TablesFit}
-use Rattle.network_meaning.specs.LocalSteps.{Act, Mode.idle3, Mode.passing3, Room as NetworkRoom, Want.work, all_shown, hands, says}
-use Rattle.network_meaning.specs.Network.{LocalState, want}
-use Rattle.network_meaning.specs.Sorts.{Shown, Table, Message, Cargo.tree, Cargo.change, Shown.head, Shown.row, Said.shown, Said.replied, Reply.refused, Message.cargo, Message.said, Message.end, Outcome.made, Outcome.refuses, Outcome.tables}
+use Rattle.network_meaning.specs.LocalSteps.{Mode.idle3, Mode.passing3, Want.work, all_shown, hands, says}
+use Rattle.network_meaning.specs.Network.{want}
+use Rattle.network_meaning.specs.Sorts.{Shown, Table, Message, Cargo.tree, Cargo.change, Said.shown, Said.replied, Reply.refused, Message.cargo, Message.said, Message.end, Outcome.made, Outcome.refuses, Outcome.tables}
 use Rattle.network_meaning.specs.Spelled.{EachSpelled, Spelled}
-use Rattle.network_meaning.specs.WorkShape.{AnswerShape.tables as shape_tables, AnswerShape.refuses as answer_refuses, UpdateShape.changes as shape_change, UpdateShape.refuses as update_refuses, RefusalShape}
+use Rattle.network_meaning.specs.WorkShape.{AnswerShape.tables as shape_tables, AnswerShape.refuses as answer_refuses, UpdateShape.changes as shape_change, UpdateShape.refuses as update_refuses}
 use Rattle.quel_meaning.proofs.Each.{Each}
 use Rattle.quel_meaning.specs.Copying.{refusal}
 use Rattle.quel_meaning.specs.Fit.{is_fit}
@@ -48,12 +48,12 @@ use Rattle.quel_tree.specs.Message.{most_tree_levels}
 use Rattle.quel_tree.specs.Relations.{columns as columns_codec}
 use Rattle.quel_tree.specs.Requests.{checked as checked_codec}
 use Rattle.quel_tree.specs.Values.{row as row_codec}
-use Rattle.stage_proc.specs.Comes.{Answers, Comes, ComesTo, HandsChange, IsHandedOn, IsUnfit, ShowsRefusal, ShowsTables, Updates, head_of}
+use Rattle.stage_proc.specs.Comes.{Comes, ComesTo, HandsChange, IsUnfit, ShowsRefusal, ShowsTables, head_of}
 use Rattle.stage_proc.specs.declared.at.At.{At}
 use Rattle.stage_proc.specs.declared.at.At.TheVariants as at
 use Rattle.stage_proc.specs.declared.processed.Processed.{Processed}
 use Rattle.stage_proc.specs.declared.processed.Processed.TheVariants as processed
-use Rattle.stage_proc.specs.Sending.{answer_frames, refusal_frames, rows_frames, table_frames, tables_frames}
+use Rattle.stage_proc.specs.Sending.{answer_frames, refusal_frames, rows_frames, tables_frames}
 use Rattle.stage_proc.specs.Standing.{AreBytesAt, HasSettled, IsWorking, standing}
 use Rattle.stage_proc.specs.Stopping.{IsCausedHere, MayComeHere}
 use Rattle.stage_proc.specs.Worked.{HasWorked, MayNotBeWorkedOn}

@@ -1,5 +1,5 @@
 -- Frames that are put one behind the other.
-use Rattle.std.proofs.Common.{◌≡◌, refl, sym, ap, subst, ◌∙◌, append_assoc, ℕ, List, [], ◌∷◌, ◌++◌, length, map, arith, Result, Ok, Err}
+use Rattle.std.proofs.Common.{◌≡◌, sym, ap, subst, ◌∙◌, append_assoc, ℕ, List, [], ◌∷◌, ◌++◌, length, map, arith, Result, Ok, Err}
 use Rattle.std.specs.Prelude.{OnOk, Some}
 use Rattle.std.proofs.lemmas.List.{append-nil}
 use Rattle.calculus.specs.declared.reply.Table.{Table as Printed}
@@ -7,17 +7,16 @@ use Rattle.calculus.specs.Rows.{Row}
 use Rattle.frame_codec.specs.declared.frame.Frame.{Frame}
 use Rattle.frame_codec.specs.Messages.{message_frames}
 use Rattle.message_codec.specs.MessageLaws.{by_only}
-use Rattle.network_meaning.specs.Sorts.{Message, Message.said, Reply.refused, Said.replied}
+use Rattle.network_meaning.specs.Sorts.{Message.said, Reply.refused, Said.replied}
 use Rattle.quel_meaning.proofs.Each.{Each}
 use Rattle.quel_meaning.specs.Copying.{refusal}
-use Rattle.quel_network.specs.Sorts.{quel_sorts}
-use Rattle.quel_network.specs.Spelling.{message_by, payload_of, refusal_codec}
+use Rattle.quel_network.specs.Spelling.{message_by, payload_of}
 use Rattle.quel_network.specs.TableFits.{RowStands, TableStands}
 use Rattle.quel_network.specs.Trees.{sent_table}
 use Rattle.quel_tree.specs.Relations.{columns as columns_codec}
 use Rattle.quel_tree.specs.Values.{row as row_codec}
 use Rattle.calculus.specs.declared.reply.Column.{Column}
-use Rattle.stage_proc.specs.Sending.{refusal_frames, rows_frames, table_frames, tables_frames}
+use Rattle.stage_proc.specs.Sending.{refusal_frames, rows_frames, table_frames}
 
 -- the frames of a message of these bytes are behind others
 pub put_so : {E : Type 0} (r : Result (Unit {0}) E) (old new : List Frame) (kind : ℕ) (bytes written : List ℕ) → bytes ≡ written → OnOk r (new ≡ old ++ message_frames kind bytes) → OnOk r (new ≡ old ++ message_frames kind written)

@@ -1,5 +1,5 @@
 -- What is made of a tree, part by part.
-use Rattle.std.proofs.Common.{◌≡◌, ◌⊎◌, inl, inr, refl, sym, ap, subst, ◌∙◌, ℕ, zero, suc, ◌≤◌, true, false, List, [], ◌∷◌, length, map, Some, None, Result, Ok, Err, IsErrOf, arith}
+use Rattle.std.proofs.Common.{◌≡◌, inl, inr, refl, sym, ap, subst, ℕ, zero, suc, true, false, List, [], ◌∷◌, length, map, Some, Result, Ok, Err, IsErrOf}
 use Rattle.std.specs.Prelude.{IfErr, IfOk, IsFalse}
 use Rattle.std.specs.declared.option.Option.{Option}
 use Rattle.std.proofs.lemmas.List.{length-map}
@@ -23,7 +23,6 @@ use Rattle.calculus.specs.IsDatabase.{IsDatabase}
 use Rattle.calculus.specs.QueryParts.{targets_of}
 use Rattle.calculus.specs.Replacement.{updated}
 use Rattle.calculus.specs.Who.{Unrestricted, asker_of}
-use Rattle.frame_codec.specs.declared.frame.Frame.{Frame}
 use Rattle.message_codec.specs.MessageLaws.{change_by}
 use Rattle.net_core.specs.declared.fault.WorkFault.{WorkFault}
 use Rattle.net_core.specs.declared.fault.WorkFault.TheVariants as work
@@ -35,8 +34,6 @@ use Rattle.quel_meaning.specs.Tables.{column_of, some_query_lacks, table_of}
 use Rattle.quel_network.specs.TableFits.{TableStands}
 use Rattle.quel_network.specs.TableLaws.{tables_stand as fit_tables_stand}
 use Rattle.quel_network.specs.Trees.{IsFitTree, outcome_by, outcome_of_tree, sent_table}
-use Rattle.network_meaning.specs.Sorts.{Outcome.tables}
-use Rattle.quel_tree.specs.Changes.{change as change_codec}
 use Rattle.quel_tree.specs.Message.{most_tree_levels}
 use Rattle.quel_tree.specs.Queries.{query, target_over, trees}
 use Rattle.quel_tree.specs.Relations.{column, columns as columns_codec}
@@ -44,7 +41,7 @@ use Rattle.quel_tree.specs.Requests.{asked as asked_codec, checked as checked_co
 use Rattle.spelling_laws.proofs.Changes.{lawful_spelled}
 use Rattle.tree_words.specs.Codec.{Codec}
 use Rattle.tree_words.specs.Words.{ItemsFit, list, number16}
-use Rattle.stage_proc.specs.Comes.{Answers, CannotBeShown, Comes, ComesTo, HandsChange, HasHead, HeadIsSpelled, IsHanded, IsRefused, IsUnfit, ShowsRefusal, Updates, head_of}
+use Rattle.stage_proc.specs.Comes.{Answers, CannotBeShown, Comes, ComesTo, HasHead, HeadIsSpelled, IsHanded, IsRefused, IsUnfit, ShowsRefusal, Updates, head_of}
 use Rattle.stage_proc.specs.declared.processed.Processed.{Processed}
 use Rattle.stage_proc.specs.declared.processed.Processed.TheVariants as processed
 use Rattle.stage_proc.specs.declared.stopped.Stopped.{Stopped}

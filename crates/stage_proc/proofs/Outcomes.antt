@@ -7,7 +7,6 @@ use Rattle.calculus.specs.declared.change.DbChange.{DbChange}
 use Rattle.calculus.specs.declared.change.Pair.{Pair}
 use Rattle.calculus.specs.declared.request.Asked.{Asked}
 use Rattle.calculus.specs.declared.request.Update.{Update}
-use Rattle.calculus.specs.declared.reply.Reply.{Reply}
 use Rattle.calculus.specs.declared.reply.Reply.TheVariants.{Refused, Tables}
 use Rattle.calculus.specs.declared.reply.Table.{Table as Printed}
 use Rattle.calculus.specs.Database.{Db}

@@ -1,5 +1,5 @@
 -- What a piece of work that only asks the base leaves of the outside.
-use Rattle.std.proofs.Common.{◌≡◌, ◌≤◌, ◌⊎◌, inl, inr, refl, sym, ap, subst, ◌∙◌, ℕ, Bool, true, false, List, [], Some, Result, Ok, Err, IsErrOf, OnOk, arith}
+use Rattle.std.proofs.Common.{◌≡◌, ◌≤◌, inl, refl, sym, ap, subst, ◌∙◌, ℕ, List, [], Result, Ok, Err, IsErrOf, arith}
 use Rattle.std.specs.Prelude.{IsOk, OnErr}
 use Rattle.std.proofs.lemmas.List.{append-nil}
 use Rattle.std.proofs.KnownBytes.{Appends-nil}
@@ -9,25 +9,23 @@ use Rattle.base_trait.proofs.Crashes.{asked_leaves, still_stands}
 use Rattle.base_trait.specs.Crashes.{AllDenote, LeavesBut}
 use Rattle.calculus.specs.Database.{Db}
 use Rattle.frame_codec.specs.declared.frame.Frame.{Frame}
-use Rattle.net_core.proofs.Faulty.{no_source, reads_nothing, within_nothing}
-use Rattle.net_core.specs.Causes.{IsCaused, MayCome, MayNotWork}
+use Rattle.net_core.proofs.Faulty.{no_source, reads_nothing}
+use Rattle.net_core.specs.Causes.{IsCaused, MayNotWork}
 use Rattle.net_core.specs.Crashes.{MayLeave, QuietWithout, StaysDurable, WorkLeaves}
 use Rattle.net_core.specs.declared.fault.WorkFault.{WorkFault}
 use Rattle.net_core.specs.declared.fault.WorkFault.TheVariants as faults
 use Rattle.net_core.specs.Known.{FailedWork, KeepsDatabase, Later, Outside, known}
-use Rattle.net_core.specs.Reads.{ReadsOn, Within}
+use Rattle.net_core.specs.Reads.{ReadsOn}
 use Rattle.net_core.specs.Spares.{Counts, CountsOnly, IsInside, LeavesEnds, Spares}
 use Rattle.network_meaning.specs.Calls.{WorkDone}
-use Rattle.network_meaning.specs.LocalSteps.{Mode, Room as NetworkRoom, Want.work}
-use Rattle.network_meaning.specs.Network.{LocalState, want}
-use Rattle.network_meaning.specs.Turn.{has_turn}
-use Rattle.network_meaning.specs.MessageNetwork.{StageNumber}
+use Rattle.network_meaning.specs.LocalSteps.{Mode}
+use Rattle.network_meaning.specs.Network.{LocalState}
 use Rattle.quel_network.specs.Quel.{quel}
 use Rattle.quel_network.specs.Sorts.{User, quel_sorts}
 use Rattle.stage_proc.specs.declared.at.At.{At}
 use Rattle.stage_proc.specs.declared.at.At.TheVariants as at
 use Rattle.stage_proc.specs.Standing.{IsWorking, standing}
-use Rattle.stage_proc.specs.Stopping.{HasWorkCause, MayComeHere}
+use Rattle.stage_proc.specs.Stopping.{HasWorkCause}
 use Rattle.stage_proc.specs.Worked.{HasWorked, MayNotBeWorkedOn}
 
 -- the outside, where the base may have been asked

@@ -1,13 +1,11 @@
 -- Rows that pass the test stand behind their heads, and no others do.
-use Rattle.std.proofs.Common.{◌≡◌, refl, sym, ap, subst, ◌∙◌, ℕ, zero, suc, ◌≤◌, arith, w64}
-use Rattle.std.specs.Prelude.{ℤ, pos, negsuc, FitsSigned, nat_lt, Bool, true, false, ◌&&◌, cond, IsTrue, List, [], ◌∷◌, length, map}
-use Rattle.std.specs.List.{list_all}
+use Rattle.std.proofs.Common.{◌≡◌, refl, ap, subst, suc, arith, w64}
+use Rattle.std.specs.Prelude.{ℤ, pos, negsuc, FitsSigned, nat_lt, Bool, true, false, cond, List, [], ◌∷◌, length, map}
 use Rattle.std.specs.Ordering.{is_le}
 use Rattle.std.specs.declared.cmp.Ordering.TheVariants.{Less, Equal, Greater}
 use Rattle.std.proofs.lemmas.Bool.{and_from, and_parts, le-ltb}
 use Rattle.calculus.specs.declared.reply.Column.{Column}
 use Rattle.calculus.specs.declared.reply.Table.{Table as Printed}
-use Rattle.calculus.specs.declared.value.Domain.TheVariants.{I1, I2, I4, C}
 use Rattle.calculus.specs.declared.value.Kind.{Kind}
 use Rattle.calculus.specs.declared.value.Kind.TheVariants.{Of, Wide}
 use Rattle.calculus.specs.declared.value.Value.{Value}

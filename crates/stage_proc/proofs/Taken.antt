@@ -1,5 +1,5 @@
 -- What the query processor took, as what the network has taken.
-use Rattle.std.proofs.Common.{◌≡◌, ◌⊎◌, inl, inr, refl, sym, ap, subst, ◌∙◌, ℕ, Bool, true, false, List, [], ◌∷◌, ◌++◌, Some, None}
+use Rattle.std.proofs.Common.{◌≡◌, inl, inr, refl, sym, ap, subst, ◌∙◌, ℕ, true, false, List, [], ◌∷◌, ◌++◌, None}
 use Rattle.std.proofs.lemmas.List.{append-nil}
 use Rattle.calculus.specs.declared.request.Checked.{Checked}
 use Rattle.frame_codec.specs.declared.frame.Frame.{Frame}
@@ -17,12 +17,11 @@ use Rattle.net_core.specs.declared.stage.Want.TheVariants as wanted
 use Rattle.net_core.specs.Wants.{IsToTake, wish}
 use Rattle.network_meaning.specs.Calls.{Taken}
 use Rattle.network_meaning.specs.Frames.{payloads, spell}
-use Rattle.network_meaning.specs.LocalSteps.{Act, Mode, Mode.idle3, Mode.passing3, Mode.ended as over, Mode.working3, Want.take_left, Want.take_right, hands, may_go_on, says, takes, turns_to}
-use Rattle.network_meaning.specs.Network.{LocalState, done_act, want}
-use Rattle.network_meaning.specs.Sorts.{Message, Cargo.tree, Message.cargo, Message.quit, Message.said, Said.replied, Reply.done, Reply.refused}
+use Rattle.network_meaning.specs.LocalSteps.{Mode, Mode.idle3, Mode.passing3, Mode.ended as over, Mode.working3, Want.take_left, Want.take_right, hands, may_go_on, says, takes, turns_to}
+use Rattle.network_meaning.specs.Network.{LocalState, want}
+use Rattle.network_meaning.specs.Sorts.{Message.quit, Message.said, Said.replied, Reply.done, Reply.refused}
 use Rattle.quel_network.specs.Quel.{quel}
 use Rattle.quel_network.specs.Sorts.{User, quel_sorts}
-use Rattle.quel_network.specs.Spelling.{message_by}
 use Rattle.stage_proc.specs.declared.at.At.{At}
 use Rattle.stage_proc.specs.declared.at.At.TheVariants as at
 use Rattle.stage_proc.specs.Standing.{mode_at, standing}

@@ -1,8 +1,7 @@
-use Rattle.std.proofs.Common.{◌≡◌, sym, subst, ap, ◌∙◌, true, List}
+use Rattle.std.proofs.Common.{◌≡◌, sym, subst, true, List}
 use Rattle.std.proofs.lemmas.Result.{IfOk-weaker}
 use Rattle.calculus.specs.declared.request.Asked.{Asked}
 use Rattle.calculus.specs.declared.request.Checked.{Checked}
-use Rattle.calculus.specs.declared.request.Checked.TheVariants as checked
 use Rattle.quel_meaning.specs.Fit.{is_fit}
 use Rattle.stage_proc.specs.Comes.{Answers, ComesTo, Updates}
 use Rattle.stage_proc.specs.declared.processed.Processed.TheVariants as processed

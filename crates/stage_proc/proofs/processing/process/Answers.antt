@@ -2,7 +2,6 @@ use Rattle.std.proofs.Common.{◌≡◌, ◌∙◌, sym, subst, true, false, rul
 use Rattle.std.proofs.lemmas.Result.{IfOk-weaker}
 use Rattle.std.specs.declared.option.Option.{Option}
 use Rattle.calculus.specs.Database.{Db}
-use Rattle.quel_meaning.specs.Fit.{is_fit}
 use Rattle.stage_proc.specs.Comes.{Comes, ComesTo, IsUnfit}
 use Rattle.stage_proc.proofs.Made.{cause_later, comes}
 use Rattle.stage_proc.proofs.processing.process.Goals as goal

@@ -1,4 +1,4 @@
-use Rattle.std.proofs.Common.{◌≡◌, ◌∙◌, sym, ap, subst}
+use Rattle.std.proofs.Common.{ap, subst}
 use Rattle.stage_proc.specs.declared.processed.Processed.TheVariants.{Shows}
 use Rattle.stage_proc.specs.Stopping.{IsRefusing}
 use Rattle.stage_proc.proofs.processing.refuse.Goals as goal

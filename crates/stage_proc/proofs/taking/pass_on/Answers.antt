@@ -1,4 +1,3 @@
-use Rattle.std.proofs.Common.{◌≡◌}
 use Rattle.stage_proc.proofs.Taken.{is_sent}
 use Rattle.stage_proc.proofs.taking.pass_on.Goals as goal
 

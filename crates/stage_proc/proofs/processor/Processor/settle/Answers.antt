@@ -1,5 +1,4 @@
 use Rattle.std.proofs.Common.{refl, sym, subst}
-use Rattle.stage_proc.specs.declared.at.At.{At}
 use Rattle.stage_proc.specs.Standing.{IsWorking}
 use Rattle.stage_proc.proofs.Settling.{bytes_there, settled_change, settled_shown, settled_tree}
 use Rattle.stage_proc.proofs.processor.Processor.settle.Goals as goal

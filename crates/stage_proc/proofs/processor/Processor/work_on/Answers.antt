@@ -1,4 +1,3 @@
-use Rattle.std.proofs.Common.{◌≡◌, ◌∙◌}
 use Rattle.stage_proc.specs.Standing.{HasSettled, standing}
 use Rattle.stage_proc.specs.Worked.{HasWorked}
 use Rattle.stage_proc.proofs.AtWork.{found_unfit, has_worked, is_at_work, memory_cause, memory_lawful}
