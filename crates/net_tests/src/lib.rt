@@ -6,6 +6,8 @@ mod carrier;
 mod faults;
 mod fickle;
 #[cfg(test)]
+mod four;
+#[cfg(test)]
 mod hearing;
 #[cfg(test)]
 mod links;
@@ -21,6 +23,10 @@ mod processes;
 #[cfg(test)]
 mod rounds;
 #[cfg(test)]
+mod scripts;
+#[cfg(test)]
 mod serving;
+#[cfg(test)]
+mod sessions;
 #[cfg(test)]
 mod streams;
