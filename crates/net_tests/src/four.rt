@@ -118,7 +118,8 @@ const ASKED: &[u8] = b"\")\n\
 const SUMMED: &[u8] = b"), s = sum(e.k))\n\
     \\g\n";
 
-const LONG_PRINTED: &[u8] = b"done\ndone\ndone\ndone\ndone\ndone\ndone\ndone\ndone\ndone\ndone\ndone\ndone\n\
+const LONG_PRINTED: &[u8] =
+    b"done\ndone\ndone\ndone\ndone\ndone\ndone\ndone\ndone\ndone\ndone\ndone\ndone\n\
     |n                   |s                   |\n\
     |--------------------|--------------------|\n\
     |                 100|                4950|\n\
@@ -131,7 +132,9 @@ fn long<R: Abort>(rt: &R, alloc: Global) -> Vec<u8> {
     script.extend_from_slice(&text).expect(rt, "memory");
     script.extend_from_slice(ASKED).expect(rt, "memory");
     for _ in 0..20 {
-        script.extend_from_slice(b" or e.t = \"").expect(rt, "memory");
+        script
+            .extend_from_slice(b" or e.t = \"")
+            .expect(rt, "memory");
         script.extend_from_slice(&text).expect(rt, "memory");
         script.extend_from_slice(b"\"").expect(rt, "memory");
     }

@@ -3,6 +3,10 @@
 
 mod carrier;
 #[cfg(test)]
+mod driven;
+#[cfg(test)]
+mod driving;
+#[cfg(test)]
 mod faults;
 mod fickle;
 #[cfg(test)]
@@ -30,3 +34,7 @@ mod serving;
 mod sessions;
 #[cfg(test)]
 mod streams;
+#[cfg(test)]
+mod third;
+#[cfg(test)]
+mod unfit;

@@ -28,7 +28,8 @@ pub(crate) const UPDATES_PRINTED: &[u8] = b"done\n\
     |------|\n";
 
 /// Queries, updates, utilities, a view, a permit, an aggregate, copies, refusals, and commands of the monitor.
-pub(crate) const MIXED: &[u8] = b"create emp (name = c6, sal = i2, dept = c4) create dept (dname = c4, floor = i2)\n\
+pub(crate) const MIXED: &[u8] =
+    b"create emp (name = c6, sal = i2, dept = c4) create dept (dname = c4, floor = i2)\n\
     append to emp (name = \"ann\", sal = 12, dept = \"toy\") append to emp (name = \"bob\", sal = 9, dept = \"shoe\")\n\
     append to emp (name = \"cyd\", sal = 15, dept = \"toy\")\n\
     range of e is emp range of d is dept\n\
@@ -145,7 +146,8 @@ pub(crate) const STAFF: &[u8] = b"ann,14\n\
     cyd,17\n";
 
 /// The buffer that is written.
-pub(crate) const KEPT: &[u8] = b"define view rich (name = e.name, floor = d.floor) where e.dept = d.dname and e.sal > 13\n\
+pub(crate) const KEPT: &[u8] =
+    b"define view rich (name = e.name, floor = d.floor) where e.dept = d.dname and e.sal > 13\n\
     define permit retrieve of e (name) to bob\n\
     range of r is rich\n\
     retrieve (r.all)\n\
