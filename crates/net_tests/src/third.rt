@@ -1,8 +1,9 @@
 // The query processor as a process of its own, between streams in memory.
 use crate::sessions::{name, room_with};
 use fault_io::{MemLink, MemSink, MemSource};
-use frame_codec::{Message, MessageFrames, frame_bytes};
+use frame_codec::{Message, frame_bytes};
 use memory::List;
+use message_codec::Outgoing;
 use net_core::{LoopFault, stage_loop};
 use stage_proc::Processor;
 use std::alloc::Global;
@@ -120,9 +121,10 @@ fn framed<R: Abort>(rt: &R, alloc: Global, tree: Vec<u8>) -> Vec<u8> {
         kind: 2,
         bytes: List::of(tree),
     };
-    let mut frames = MessageFrames::of(alloc, message);
+    let mut frames = Outgoing::new(alloc);
+    frames.put(message).expect(rt, "memory");
     let mut stream = Vec::new(alloc);
-    'frames: while let Some(frame) = frames.next().expect(rt, "memory") {
+    'frames: while let Some(frame) = frames.pop().expect(rt, "memory") {
         let spelled = frame_bytes(alloc, &frame).expect(rt, "memory");
         stream.extend_from_slice(&spelled).expect(rt, "memory");
     }
