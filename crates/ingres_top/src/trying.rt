@@ -1,34 +1,81 @@
 //! Runs a user's script on an empty database in memory.
 
-ghost use Rattle.calculus.specs.Who.{asker_of};
-ghost use Rattle.std.specs.Prelude.{◌≡◌, ◌⊎◌, ◌↔◌, [], Some, map, string_bytes, drop, true, IfOk, IfSome, OnOk, IsErrOf};
-ghost use Rattle.fault_io.specs.Causes.{Rose};
-ghost use Rattle.fault_io.specs.Files.{Files};
-ghost use Rattle.plain_statements.specs.Standing.{empty_db};
-ghost use Rattle.session_run.specs.Runs.{AreSame};
-ghost use Rattle.ingres_top.specs.Top.{are_try, user_of, IsDone, IsPartlyDone, IsCutOff, IsKeptUp, IsBrokenOff, GaveTooMuch};
+ghost use Rattle.std.specs.Prelude.{◌≡◌, map, string_bytes, true, IfOk};
+ghost use Rattle.ingres_top.specs.Top.{are_try, user_of};
+ghost use Rattle.ingres_top.specs.Trying.{TryDone, objects};
 
+use crate::top::World;
 use calculus::{Name, OutOfMemory};
 use fault_io::{Shelf, Sink, Source};
-use plain_statements::PlainStatements;
-use session_run::{RunFault, Statements, run};
+use net_core::{Room, WorkFault};
+use net_session::run_session;
+use plain_base::DbPlain;
 use std::alloc::Global;
 
-/// What runs the statements of the user whom the words name.
-fn begun(alloc: Global, words: &[String]) -> Result<PlainStatements, OutOfMemory>
+/// The name of the user whom the words name.
+fn user_among(alloc: Global, words: &[String]) -> Result<Name, OutOfMemory>
     requires { are_try (map string_bytes words.now) ≡ true }
-    ensures asker { IfOk result (λ s. ⟦<PlainStatements as Statements>⟧.asker s ≡ asker_of (user_of (map string_bytes words.now))) }
-    ensures database { IfOk result (λ s. ⟦<PlainStatements as Statements>⟧.db s ≡ empty_db (user_of (map string_bytes words.now))) }
-    ensures ranges { IfOk result (λ s. ⟦<PlainStatements as Statements>⟧.ranges s ≡ []) }
+    ensures { IfOk result (λ name. name ≡ user_of (map string_bytes words.now)) }
 {
     let name = match words {
         [_, user] => Name::of(alloc, user.as_bytes())?,
         _ => None,
     };
     match name {
-        Some(name) => PlainStatements::new(alloc, name),
+        Some(name) => Ok(name),
         None => Err(OutOfMemory),
     }
+}
+
+/// The name twice: for the stages, and for the database whose administrator the user is.
+fn names(alloc: Global, words: &[String]) -> Result<(Name, Name), OutOfMemory>
+    requires { are_try (map string_bytes words.now) ≡ true }
+    ensures user { IfOk result (λ names. names.0 ≡ user_of (map string_bytes words.now)) }
+    ensures administrator { IfOk result (λ names. names.1 ≡ user_of (map string_bytes words.now)) }
+{
+    let user = user_among(alloc, words)?;
+    let administrator = user.copy(alloc)?;
+    Ok((user, administrator))
+}
+
+/// A session of this user over an empty database of this administrator, which is given up at the end.
+fn session<S: Source, K: Sink, H: Shelf>(
+    alloc: Global,
+    user: Name,
+    administrator: Name,
+    world: World<S, K, H>,
+) -> (Result<(), WorkFault>, World<S, K, H>)
+    requires { administrator ≡ user }
+    ensures { TryDone user
+        (objects H.files H.faults S.left S.given S.faults S.ended K.written K.faults K.stalls world)
+        (objects H.files H.faults S.left S.given S.faults S.ended K.written K.faults K.stalls result.1) result.0 }
+{
+    let World {
+        source,
+        sink,
+        shelf,
+    } = world;
+    let room = Room {
+        base: DbPlain::new(alloc, administrator),
+        shelf,
+        source,
+        sink,
+    };
+    let (outcome, room) = run_session(alloc, user, 0, room);
+    let Room {
+        base: _,
+        shelf,
+        source,
+        sink,
+    } = room;
+    (
+        outcome,
+        World {
+            source,
+            sink,
+            shelf,
+        },
+    )
 }
 
 /// Runs the script of the source for the user whom the words name, over the shelf, and gives what it
@@ -36,34 +83,15 @@ fn begun(alloc: Global, words: &[String]) -> Result<PlainStatements, OutOfMemory
 pub(crate) fn run_try<S: Source, K: Sink, H: Shelf>(
     alloc: Global,
     words: &[String],
-    source: &mut S,
-    sink: &mut K,
-    shelf: &mut H,
-) -> Result<(), RunFault>
+    world: World<S, K, H>,
+) -> (Result<(), WorkFault>, World<S, K, H>)
     requires { are_try (map string_bytes words.now) ≡ true }
-    ensures done { (files : Files) → H.files shelf.old ≡ Some files
-        → OnOk result (IsDone (user_of (map string_bytes words.now)) files (S.left source.old) (S.left source.new) (K.written sink.old) (K.written sink.new) (H.files shelf.new)) }
-    ensures partly { (files : Files) → H.files shelf.old ≡ Some files
-        → IsPartlyDone (user_of (map string_bytes words.now)) files (S.left source.old) (K.written sink.old) (K.written sink.new) }
-    ensures cut_off { (files : Files) → H.files shelf.old ≡ Some files → IsErrOf result RunFault.TooLong
-        → IsCutOff (user_of (map string_bytes words.now)) files (S.left source.old) (S.left source.new) (K.written sink.old) (K.written sink.new) (H.files shelf.new) }
-    ensures keeps_up { (files : Files) → H.files shelf.old ≡ Some files
-        → IsKeptUp (user_of (map string_bytes words.now)) files (S.left source.old) (S.left source.new) (K.written sink.old) (K.written sink.new) }
-    ensures broken_off { (files : Files) → H.files shelf.old ≡ Some files → IsErrOf result RunFault.Source
-        → IsBrokenOff (user_of (map string_bytes words.now)) files (S.left source.old) (S.left source.new) (K.written sink.old) (K.written sink.new) (H.files shelf.new) }
-
-    ensures source_fault { IsErrOf result RunFault.Source → Rose (S.faults source.old) (S.faults source.new) }
-    ensures sink_fault { IsErrOf result RunFault.Sink
-        → Rose (K.faults sink.old) (K.faults sink.new) ⊎ Rose (K.stalls sink.old) (K.stalls sink.new) }
-    ensures shelf_fault { IsErrOf result RunFault.Shelf → Rose (H.faults shelf.old) (H.faults shelf.new) }
-    ensures source_same { (IsErrOf result RunFault.Source → ⊥) → S.faults source.new ≡ S.faults source.old }
-    ensures sink_same { (IsErrOf result RunFault.Sink → ⊥)
-        → AreSame (K.faults sink.old) (K.faults sink.new) (K.stalls sink.old) (K.stalls sink.new) }
-    ensures shelf_same { (IsErrOf result RunFault.Shelf → ⊥) → H.faults shelf.new ≡ H.faults shelf.old }
-    ensures too_long { IfSome (S.left source.old) (λ script. IfSome (S.left source.new) (λ rest.
-        IsErrOf result RunFault.TooLong ↔ GaveTooMuch script rest)) }
-    ensures past { IsErrOf result RunFault.TooLong → IfSome (S.left source.old) (λ script. S.left source.new ≡ Some (drop 16777217 script)) }
+    ensures { TryDone (user_of (map string_bytes words.now))
+        (objects H.files H.faults S.left S.given S.faults S.ended K.written K.faults K.stalls world)
+        (objects H.files H.faults S.left S.given S.faults S.ended K.written K.faults K.stalls result.1) result.0 }
 {
-    let statements = begun(alloc, words)?;
-    run(alloc, statements, shelf, source, sink)
+    match names(alloc, words) {
+        Ok((user, administrator)) => session(alloc, user, administrator, world),
+        Err(OutOfMemory) => (Err(WorkFault::OutOfMemory), world),
+    }
 }

@@ -1,5 +1,5 @@
 -- What the parts of the outside say, as what a stage owes of all of it.
-use Rattle.std.proofs.Common.{◌≡◌, sym, subst, ◌∙◌, ℕ, Option, Result, Ok, Err, IfErr, IsErrOf, arith}
+use Rattle.std.proofs.Common.{◌≡◌, ◌⊎◌, inl, inr, sym, subst, ◌∙◌, ℕ, Option, Result, Ok, Err, IfErr, IsErrOf, IsOk, arith}
 use Rattle.std.proofs.lemmas.Option.{same_Some}
 use Rattle.base_trait.specs.Crashes.{AllDenote}
 use Rattle.calculus.specs.Database.{Db}
@@ -8,11 +8,17 @@ use Rattle.net_core.specs.Crashes.{StaysDurable}
 use Rattle.net_core.specs.declared.fault.WorkFault.{WorkFault}
 use Rattle.net_core.specs.declared.fault.WorkFault.TheVariants as faults
 use Rattle.net_core.specs.Known.{KeepsDatabase, Later, Outside}
-use Rattle.net_core.specs.Reads.{ReadsOn}
+use Rattle.net_core.specs.Reads.{ReadsNothing, ReadsOn, ReadsScript}
 use Rattle.net_core.specs.Spares.{CountsOnly, CountsOnlyBy, LeavesEnds, Spares, SparesBy, counts}
+use Rattle.network_meaning.specs.LocalSteps.{Mode.reading}
+use Rattle.quel_network.specs.Sorts.{Monitor}
+use Rattle.monitor.specs.Asked.{SourceAsked, Unasked}
 use Rattle.monitor.specs.Doing.{SparesOut}
 use Rattle.monitor.specs.Faults.{CountsShelf, CountsSink, IsOfMonitor, ShelfSays, SinkSays}
 use Rattle.monitor.specs.Lines.{SourceRead, SourceSays}
+use Rattle.monitor.specs.Standing.{mode_at}
+use Rattle.monitor.specs.declared.at.At.{At}
+use Rattle.monitor.specs.declared.at.At.TheVariants as at
 
 -- the database is as it was, and this is what the source, the shelf and the sink say
 pub record Around {T : Type 0} (heard heard' : ℕ) (o o' : Outside) (result : Result T WorkFault) : Type 0 where
@@ -88,8 +94,20 @@ database_kept heard heard' o o' r a db known = (db, a.database ∙ known)
 
 -- ---- what was read
 
-pub reads_on : {T : Type 0} (heard heard' : ℕ) (o o' : Outside) (r : Result T WorkFault) → Around heard heard' o o' r → ReadsOn heard heard' o o' (IsErrOf r faults.Source)
-reads_on heard heard' o o' r a = record { line = a.source.line; broken = a.source.broken; given = a.source.counted }
+-- it reads
+pub reads_on : {T : Type 0} (m : Monitor) (here : At) (heard heard' : ℕ) (o o' : Outside) (r : Result T WorkFault) → here ≡ at.Reading → Around heard heard' o o' r → SourceAsked m heard heard' o.script o'.script o.source_ended o'.source_ended r
+    → ReadsOn (mode_at m here) heard heard' o o' (IsErrOf r faults.Source) (IsOk r)
+reads_on m here heard heard' o o' r is a s = subst (λ (place : At). ReadsOn (mode_at m place) heard heard' o o' (IsErrOf r faults.Source) (IsOk r)) (sym is) (record {
+  line = a.source.line;
+  broken = a.source.broken;
+  given = a.source.counted;
+  asks = by s.asks;
+  over = record { stays = s.ends.stays; whole = s.ends.whole; going = s.ends.going };
+})
+  where
+    by : ReadsScript (reading m) ⊎ Unasked heard heard' o.script o'.script r → ReadsScript (reading m) ⊎ ReadsNothing heard heard' o o' (IsErrOf r faults.Source)
+    by (inl x) = inl x
+    by (inr n) = inr (record { unread = n.0; script = n.1; fine = n.2 })
 
 -- ---- crashes
 

@@ -7,6 +7,7 @@ pub mod Files
 pub mod Parting
 pub mod Counting
 pub mod Lined
+pub mod Ended
 pub mod Filling
 pub mod Done
 pub mod Sent

@@ -3,6 +3,7 @@
 ghost use Rattle.std.specs.Prelude.{◌≡◌, ◌≤◌, ◌++◌, ℕ, List, [], IfErr, IfNone, IfOk, OnOk, Some, false, length};
 ghost use Rattle.fault_io.specs.Files.{Files};
 ghost use Rattle.fault_io.specs.Shelves.{HasShelfCause};
+ghost use Rattle.monitor.specs.Asked.{SourceAsked};
 ghost use Rattle.monitor.specs.Seen.{seen_command, seen_part};
 ghost use Rattle.monitor.specs.Faults.{CountsShelf, IsOfLine, IsOfReading};
 ghost use Rattle.monitor.specs.Lines.{SourceRead};
@@ -306,6 +307,7 @@ impl Reader {
         ensures did { (known : Files) (script : List ℕ) → S.left source.old ≡ Some script → IfOk result (λ some. Fills self.old known script some self.new (S.left source.new)) }
         ensures may { (known : Files) → IfOk result (λ some. MayFill self.old known some self.new) }
         ensures source { SourceRead heard.old heard.new (S.left source.old) (S.left source.new) (S.given source.old) (S.given source.new) (S.faults source.old) (S.faults source.new) result }
+        ensures ends { SourceAsked self.old heard.old heard.new (S.left source.old) (S.left source.new) (S.ended source.old) (S.ended source.new) result }
         ensures inside { IfErr result (λ fault. IsOfLine fault) }
     {
         if !self.parts.is_empty() {
@@ -339,6 +341,7 @@ impl Reader {
         ensures may { (known : Files) → H.files shelf.old ≡ Some known → IfOk result (λ event. MayRead self.old known event self.new out.new.items) }
         ensures same { H.files shelf.new ≡ H.files shelf.old }
         ensures source { SourceRead heard.old heard.new (S.left source.old) (S.left source.new) (S.given source.old) (S.given source.new) (S.faults source.old) (S.faults source.new) result }
+        ensures ends { SourceAsked self.old heard.old heard.new (S.left source.old) (S.left source.new) (S.ended source.old) (S.ended source.new) result }
         ensures shelf { CountsShelf (H.faults shelf.old) (H.faults shelf.new) result }
         ensures inside { IfErr result (λ fault. IsOfReading fault) }
     {

@@ -3,6 +3,7 @@
 ghost use Rattle.std.specs.Prelude.{◌≡◌, [], true, IfErr, OnErr, OnOk};
 ghost use Rattle.base_trait.specs.Crashes.{AllDenote, LeavesBut};
 ghost use Rattle.calculus.specs.Database.{Db};
+ghost use Rattle.monitor.specs.Asked.{SourceAsked};
 ghost use Rattle.monitor.specs.Doing.{HasDone, ReadPartly, SparesOut};
 ghost use Rattle.monitor.specs.Faults.{CountsShelf, CountsSink, IsOfMonitor};
 ghost use Rattle.monitor.specs.Lines.{SourceRead};
@@ -37,6 +38,7 @@ pub(crate) fn read<H: Shelf, S: Source, K: Sink>(
     ensures part { OnErr result (ReadPartly reader.old (S.left source.old) (H.files shelf.old) (H.files shelf.new) (K.written sink.old) (K.written sink.new)) }
     ensures due { IsDueAt at.new }
     ensures source { SourceRead heard.old heard.new (S.left source.old) (S.left source.new) (S.given source.old) (S.given source.new) (S.faults source.old) (S.faults source.new) result }
+    ensures ends { SourceAsked reader.old heard.old heard.new (S.left source.old) (S.left source.new) (S.ended source.old) (S.ended source.new) result }
     ensures shelf { CountsShelf (H.faults shelf.old) (H.faults shelf.new) result }
     ensures sink { CountsSink (K.faults sink.old) (K.faults sink.new) (K.stalls sink.old) (K.stalls sink.new) result }
     ensures spares { IfErr result (λ fault. SparesOut (H.files shelf.old) (H.files shelf.new) (K.written sink.old) (K.written sink.new) fault) }

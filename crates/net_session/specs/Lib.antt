@@ -1,3 +1,4 @@
+pub mod Made
 pub mod Rounds
 pub mod Runs
 pub mod Session

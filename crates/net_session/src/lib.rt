@@ -3,6 +3,4 @@
 #![tactic(auto)]
 
 mod rounds;
-mod session;
-
-pub use session::run_session;
+mod turn;

@@ -1,11 +1,10 @@
 //! The fourth stage.
 
-ghost use Rattle.std.specs.Prelude.{◌≡◌, []};
+ghost use Rattle.std.specs.Prelude.{◌≡◌};
 ghost use Rattle.calculus.specs.Who.{asker_of};
 ghost use Rattle.network_meaning.specs.LocalSteps.{Mode.idle4};
 ghost use Rattle.network_meaning.specs.Network.{quiet_at};
 ghost use Rattle.quel_network.specs.Sorts.{User};
-ghost use Rattle.stage_util.specs.Standing.{Serves, standing};
 
 use crate::at::{At, at_taking};
 use crate::carrying::carry_out;
@@ -40,8 +39,10 @@ impl Drop for Utilities {
 impl Utilities {
     /// The utilities of a user, with nothing to carry out.
     pub fn new(alloc: Global, user: Name) -> Utilities
-        ensures state { standing result.at result.got result.out ≡ quiet_at idle4 }
-        ensures serves { (u : User) → u.asker ≡ asker_of user → Serves result.user result.at u }
+        ensures state { ⟦<Utilities as Stage>⟧.state result ≡ quiet_at idle4 }
+        ensures serves { (whom : User) → whom.asker ≡ asker_of user → ⟦<Utilities as Stage>⟧.serves result whom }
+        ensures place { ⟦<Utilities as Stage>⟧.place result ≡ 4 }
+        ensures heard { ⟦<Utilities as Stage>⟧.heard result ≡ 0 }
     {
         Utilities {
             user,

@@ -8,6 +8,7 @@ use Rattle.monitor.specs.Faults.{IsLater, IsOfMonitor, IsOfStoring}
 use Rattle.monitor.specs.Settling.{MayBeStored}
 use Rattle.monitor.proofs.Counting.{prints_here, prints_later, reading_unsunk, reads_here, shelf_behind, shelf_err, shelf_printing, sink_err, sink_storing, sink_unused, stores_here, stores_later}
 use Rattle.monitor.proofs.Done.{has_done, part_stored, part_unwritten, part_written, spares_all, spares_later}
+use Rattle.monitor.proofs.Ended.{asked_behind, asked_err}
 use Rattle.monitor.proofs.Erring.{handed_on, if_err, on_err_all, on_err_any, on_ok_all}
 use Rattle.monitor.proofs.Lined.{source_behind, source_err}
 use Rattle.monitor.proofs.working.read.Goals as goal
@@ -144,3 +145,20 @@ returns-clause-spares g c =
 
 pub returns-clause-inside : goal.returns-clause-inside
 returns-clause-inside g c = IfErr-weaker c.settle.result (λ f. IsOfStoring f) (λ f. IsOfMonitor f) (λ f h. stores_here f h) c.settle.ensures.inside
+
+-- ---- whether the source was asked
+
+pub returns-in_err-event-clause-ends : goal.returns-in_err-event-clause-ends
+returns-in_err-event-clause-ends g c =
+    let f = c.in_err-event.field-0.0 in
+    let r = c.from_residual.result in
+    asked_err f r (handed_on r f c.from_residual.ensures.1) c.in_err-event.ensures.ends
+
+pub returns-in_err-put-clause-ends : goal.returns-in_err-put-clause-ends
+returns-in_err-put-clause-ends g c =
+    let f = c.in_err-put.field-0.0 in
+    let r = c.from_residual-in_err-put.result in
+    asked_behind _ r (if_err r f (λ x. IsLater x) (handed_on r f c.from_residual-in_err-put.ensures.1) (prints_later f c.in_err-put.ensures.inside)) c.in_ok-event.ensures.ends
+
+pub returns-clause-ends : goal.returns-clause-ends
+returns-clause-ends g c = asked_behind _ c.settle.result (IfErr-weaker c.settle.result (λ f. IsOfStoring f) (λ f. IsLater f) (λ f h. stores_later f h) c.settle.ensures.inside) c.in_ok-event.ensures.ends

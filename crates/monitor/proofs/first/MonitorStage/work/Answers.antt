@@ -1,5 +1,6 @@
 use Rattle.std.proofs.Common.{◌≡◌, ◌∙◌, ap, refl, Ok}
 use Rattle.base_trait.proofs.Crashes.{asked_leaves, nothing_else}
+use Rattle.net_core.proofs.Faulty.{reads_nothing}
 use Rattle.net_core.specs.Known.{Outside, outside}
 use Rattle.monitor.specs.Doing.{SparesOut}
 use Rattle.monitor.specs.Faults.{IsLater, IsOfMonitor}
@@ -8,6 +9,7 @@ use Rattle.monitor.proofs.Around.{Around, all_later, caused, counted, database_k
 use Rattle.monitor.proofs.AtWork.{SameButOutput, due_printed, hands_reading, keeps_printing, not_ended, not_waiting, printed_partly, read_partly, work_printed, work_read}
 use Rattle.monitor.proofs.Counting.{print_unshelved, prints_here, prints_later, shelf_as, shelf_err, shelf_same, shelf_unused, sink_as, sink_err}
 use Rattle.monitor.proofs.Done.{spares_later}
+use Rattle.monitor.proofs.Ended.{asked_as, asked_err, later_apart}
 use Rattle.monitor.proofs.Erring.{handed_on, if_err, not_ok, on_err_any}
 use Rattle.monitor.proofs.Lined.{source_as, source_err, source_same, source_unread}
 use Rattle.monitor.proofs.first.MonitorStage.work.Goals as goal
@@ -40,7 +42,7 @@ returns-in_ok-print-in-Printing g c =
       cause = tt;
       counts = counted s.heard s.heard before after (Ok tt) a;
       spares = tt;
-      reads = reads_on s.heard s.heard before after (Ok tt) a;
+      reads = reads_nothing _ s.heard before after _ _ refl refl refl (λ e. cc e);
       within = a.source.within;
       ends = only_first 1 s.heard s.heard before after (Ok tt) refl;
       handed = λ works had has. keeps_printing _ s.reader s.reader s.at c.printed.new.self c.in-Printing.begun c.in-Printing.said c.in-Printing.is now had has;
@@ -80,7 +82,7 @@ returns-in_err-print-in-Printing g c =
       cause = caused s.heard s.heard before after r a;
       counts = counted s.heard s.heard before after r a;
       spares = spared s.heard s.heard before after r a;
-      reads = reads_on s.heard s.heard before after r a;
+      reads = reads_nothing _ s.heard before after _ _ refl refl refl (later_apart r (if_err r f (λ x. IsLater x) is (prints_later f of)));
       within = a.source.within;
       ends = only_first 1 s.heard s.heard before after r refl;
       handed = not_ok r f _ is;
@@ -119,7 +121,7 @@ returns-in_ok-read-in-Reading g c =
       cause = tt;
       counts = counted s.heard c.read.new.heard before after (Ok tt) a;
       spares = tt;
-      reads = reads_on s.heard c.read.new.heard before after (Ok tt) a;
+      reads = reads_on s.reader s.at s.heard c.read.new.heard before after (Ok tt) c.in-Reading.is a (asked_as _ tt done.ends);
       within = a.source.within;
       ends = only_first 1 s.heard c.read.new.heard before after (Ok tt) refl;
       handed = λ works had has. hands_reading c.read.new.reader c.read.new.at done.did.event (g.B.Base.schema c.give_turn.new.base) (g.B.Base.database c.give_turn.new.base) done.did.stands turn.forgotten has;
@@ -158,7 +160,7 @@ returns-in_err-read-in-Reading g c =
       cause = caused s.heard c.read.new.heard before after r a;
       counts = counted s.heard c.read.new.heard before after r a;
       spares = spared s.heard c.read.new.heard before after r a;
-      reads = reads_on s.heard c.read.new.heard before after r a;
+      reads = reads_on s.reader s.at s.heard c.read.new.heard before after r c.in-Reading.is a (asked_err f r is done.ends);
       within = a.source.within;
       ends = only_first 1 s.heard c.read.new.heard before after r refl;
       handed = not_ok r f _ is;

@@ -3,9 +3,12 @@ use Rattle.net_core.specs.declared.fault.WorkFault.TheVariants as faults
 use Rattle.quel_meaning.specs.Monitor.{parts_of}
 use Rattle.quel_network.specs.Sorts.{Monitor}
 use Rattle.monitor.specs.Faults.{IsLater}
+use Rattle.net_core.specs.Reads.{ReadsScript}
+use Rattle.network_meaning.specs.LocalSteps.{Mode.reading}
 use Rattle.monitor.specs.Files.{IsNext}
 use Rattle.monitor.specs.Lines.{IsLine, IsOneLine}
 use Rattle.monitor.specs.Reading.{Fills, MayFill}
+use Rattle.monitor.proofs.Ended.{asked_nothing, asked_script, end_behind, end_err, no_line_open}
 use Rattle.monitor.proofs.Erring.{handed_on, if_err}
 use Rattle.monitor.proofs.Filling.{line_of_file, line_of_script, may_at_hand, may_end, may_of_file, may_of_script, no_line}
 use Rattle.monitor.proofs.Lined.{source_as, source_behind, source_err, source_same, source_unread}
@@ -115,3 +118,56 @@ returns-in-None-clause-may g c = λ known.
 
 pub returns-in-None-clause-source : goal.returns-in-None-clause-source
 returns-in-None-clause-source g c = source_as _ _ c.in_ok-line-2.ensures.source
+
+-- ---- whether the source was asked
+
+pub returns-then-not-is_empty-clause-ends : goal.returns-then-not-is_empty-clause-ends
+returns-then-not-is_empty-clause-ends g c = asked_nothing c.args.self.now c.args.heard.now _ _ _ tt
+
+pub returns-in_err-line-clause-ends : goal.returns-in_err-line-clause-ends
+returns-in_err-line-clause-ends g c =
+    let r = c.from_residual.result in
+    asked_nothing c.args.self.now c.args.heard.now _ _ r (if_err r faults.OutOfMemory (λ f. IsLater f) (handed_on r faults.OutOfMemory c.from_residual.ensures.1) tt)
+
+pub returns-in_err-self-inside-clause-ends : goal.returns-in_err-self-inside-clause-ends
+returns-in_err-self-inside-clause-ends g c =
+    let r = c.from_residual-in_err-self-inside.result in
+    asked_nothing c.args.self.now c.args.heard.now _ _ r (if_err r faults.OutOfMemory (λ f. IsLater f) (handed_on r faults.OutOfMemory c.from_residual-in_err-self-inside.ensures.1) tt)
+
+pub returns-in-Some-clause-ends : goal.returns-in-Some-clause-ends
+returns-in-Some-clause-ends g c = asked_nothing c.args.self.now c.args.heard.now _ _ _ tt
+
+pub returns-in_err-line-2-clause-ends : goal.returns-in_err-line-2-clause-ends
+returns-in_err-line-2-clause-ends g c =
+    let none : c.self.inside.parts ≡ [] = search rules in
+    let no : c.in_ok-line.field-0 ≡ None = search rules in
+    let next : IsNext c.self.inside.files None c.next_line.new.self = rw no at c.in_ok-line.ensures in
+    let script = subst (λ (m : Monitor). ReadsScript (reading m)) c.self.view_is (none, no_line_open c.self.inside.files next.0) in
+    let f = c.in_err-line-2.field-0.0 in
+    let r = c.from_residual-in_err-line-2.result in
+    asked_script c.args.self.now r script (end_err f r (handed_on r f c.from_residual-in_err-line-2.ensures.1) c.in_err-line-2.ensures.ends)
+
+pub returns-in_err-self-inside-in-Some-2-clause-ends : goal.returns-in_err-self-inside-in-Some-2-clause-ends
+returns-in_err-self-inside-in-Some-2-clause-ends g c =
+    let none : c.self.inside.parts ≡ [] = search rules in
+    let no : c.in_ok-line.field-0 ≡ None = search rules in
+    let next : IsNext c.self.inside.files None c.next_line.new.self = rw no at c.in_ok-line.ensures in
+    let script = subst (λ (m : Monitor). ReadsScript (reading m)) c.self.view_is (none, no_line_open c.self.inside.files next.0) in
+    let r = c.from_residual-in_err-self-inside-in-Some-2.result in
+    asked_script c.args.self.now r script (end_behind _ r (if_err r faults.OutOfMemory (λ f. IsLater f) (handed_on r faults.OutOfMemory c.from_residual-in_err-self-inside-in-Some-2.ensures.1) tt) c.in_ok-line-2.ensures.ends)
+
+pub returns-in_ok-self-inside-in-Some-2-clause-ends : goal.returns-in_ok-self-inside-in-Some-2-clause-ends
+returns-in_ok-self-inside-in-Some-2-clause-ends g c =
+    let none : c.self.inside.parts ≡ [] = search rules in
+    let no : c.in_ok-line.field-0 ≡ None = search rules in
+    let next : IsNext c.self.inside.files None c.next_line.new.self = rw no at c.in_ok-line.ensures in
+    let script = subst (λ (m : Monitor). ReadsScript (reading m)) c.self.view_is (none, no_line_open c.self.inside.files next.0) in
+    asked_script c.args.self.now _ script (end_behind _ _ tt c.in_ok-line-2.ensures.ends)
+
+pub returns-in-None-clause-ends : goal.returns-in-None-clause-ends
+returns-in-None-clause-ends g c =
+    let none : c.self.inside.parts ≡ [] = search rules in
+    let no : c.in_ok-line.field-0 ≡ None = search rules in
+    let next : IsNext c.self.inside.files None c.next_line.new.self = rw no at c.in_ok-line.ensures in
+    let script = subst (λ (m : Monitor). ReadsScript (reading m)) c.self.view_is (none, no_line_open c.self.inside.files next.0) in
+    asked_script c.args.self.now _ script (end_behind _ _ tt c.in_ok-line-2.ensures.ends)

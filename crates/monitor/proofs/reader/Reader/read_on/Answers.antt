@@ -2,6 +2,7 @@ use Rattle.std.proofs.Common.{◌≡◌, rules, true, false}
 use Rattle.net_core.specs.declared.fault.WorkFault.TheVariants as faults
 use Rattle.monitor.specs.Faults.{IsOfReading}
 use Rattle.monitor.proofs.Counting.{line_reads, line_unshelved, shelf_failed, shelf_no_memory, shelf_ok, shelf_same, shelf_unused}
+use Rattle.monitor.proofs.Ended.{asked_as, asked_err, asked_then}
 use Rattle.monitor.proofs.Erring.{handed_on, if_err}
 use Rattle.monitor.proofs.Filling.{may_end_so, may_read_on, read_end, read_line_on}
 use Rattle.monitor.proofs.Lined.{source_as, source_err, source_then}
@@ -73,3 +74,23 @@ returns-in-Err-OutOfMemory-clause-source g c = source_then _ faults.OutOfMemory 
 
 pub returns-in-Err-OutOfMemory-clause-shelf : goal.returns-in-Err-OutOfMemory-clause-shelf
 returns-in-Err-OutOfMemory-clause-shelf g c = shelf_no_memory (rw c.in-Err-OutOfMemory.field-0-is at c.in-Err-OutOfMemory.ensures.cause)
+
+-- ---- whether the source was asked
+
+pub returns-in_err-fill-clause-ends : goal.returns-in_err-fill-clause-ends
+returns-in_err-fill-clause-ends g c =
+    let f = c.in_err-fill.field-0.0 in
+    let r = c.from_residual.result in
+    asked_err f r (handed_on r f c.from_residual.ensures.1) c.in_err-fill.ensures.ends
+
+pub returns-then-not-branch-clause-ends : goal.returns-then-not-branch-clause-ends
+returns-then-not-branch-clause-ends g c = asked_as _ _ c.in_ok-fill.ensures.ends
+
+pub returns-in-Ok-clause-ends : goal.returns-in-Ok-clause-ends
+returns-in-Ok-clause-ends g c = asked_as _ _ c.in_ok-fill.ensures.ends
+
+pub returns-in-Err-Failed-clause-ends : goal.returns-in-Err-Failed-clause-ends
+returns-in-Err-Failed-clause-ends g c = asked_then _ faults.Shelf tt c.in_ok-fill.ensures.ends
+
+pub returns-in-Err-OutOfMemory-clause-ends : goal.returns-in-Err-OutOfMemory-clause-ends
+returns-in-Err-OutOfMemory-clause-ends g c = asked_then _ faults.OutOfMemory tt c.in_ok-fill.ensures.ends

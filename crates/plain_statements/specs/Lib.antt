@@ -1,4 +1,0 @@
-pub mod Doable
-pub mod Plans
-pub mod Standing
-pub mod Stopping
