@@ -1,4 +1,4 @@
-//! Tests of the network: links and spawners, rounds of turns, stages that play a written list, in a line and as processes, and one that serves everyone.
+//! Tests of the network: links and spawners, rounds of turns, stages that play a written list, in a line and as processes, one that serves everyone, and the four stages of the program.
 #![tactic(auto)]
 
 mod carrier;
