@@ -181,7 +181,7 @@ pub(crate) fn unknown(room: Memory) -> Over<Fickle> {
 }
 
 /// A round in which each stage of the order takes so many steps.
-fn round<R: Abort>(rt: &R, alloc: Global, order: [u8; 4], times: usize) -> Vec<u8> {
+pub(crate) fn round<R: Abort>(rt: &R, alloc: Global, order: [u8; 4], times: usize) -> Vec<u8> {
     let mut turns = Vec::new(alloc);
     for k in order {
         for _ in 0..times {
@@ -199,7 +199,7 @@ fn is_stage(k: u8) -> bool
 }
 
 /// Each number of the list is that of a stage.
-fn are_stages(turns: &[u8]) -> bool
+pub(crate) fn are_stages(turns: &[u8]) -> bool
     ensures { IsTrue result → All (λ k. (1 ≤ k) × (k ≤ 4)) turns.now }
 {
     turns.iter().all(|k| is_stage(*k))
@@ -257,7 +257,7 @@ fn plays_right<R: Abort, B: Base>(
 }
 
 /// All orders of the four stages.
-fn orders<R: Abort>(rt: &R, alloc: Global) -> Vec<[u8; 4]> {
+pub(crate) fn orders<R: Abort>(rt: &R, alloc: Global) -> Vec<[u8; 4]> {
     let mut orders = Vec::new(alloc);
     for number in 0..256_u16 {
         let order = stages_of(number);
