@@ -16,6 +16,7 @@ use Rattle.net_core.specs.declared.fault.WorkFault.{WorkFault}
 use Rattle.net_core.specs.declared.fault.WorkFault.TheVariants as faults
 use Rattle.net_core.specs.Known.{Outside, known}
 use Rattle.net_core.specs.Spares.{Counts, CountsOnly}
+use Rattle.net_session.proofs.Unbegun.{not_begun}
 use Rattle.network_meaning.specs.Calls.{Knows}
 use Rattle.network_meaning.specs.LocalSteps.{Room}
 use Rattle.quel_grammar.specs.NextReader.{next_at}
@@ -77,6 +78,37 @@ rose_shelf outcome old new c e = let h : IsCaused {T = Unit {0}} 0 old new (Err 
 -- the user whom the words name, as the grammar reads
 abbrev user_for : List ℕ → User
 user_for user = record { asker = asker_of user; reading = next_at; grammatical = reads }
+
+-- ---- a session that didn't begin
+
+-- an outside of these objects, with an empty database
+abbrev empty_of : List ℕ → Objects → Outside
+empty_of user b = record {
+  database = Some (empty_db user);
+  base_faults = 0;
+  clock = 0;
+  reads = 0;
+  files = b.files;
+  shelf_faults = b.shelf_faults;
+  script = b.script;
+  given = b.given;
+  source_faults = b.source_faults;
+  source_ended = b.source_ended;
+  output = b.output;
+  sink_faults = b.sink_faults;
+  sink_stalls = b.sink_stalls;
+}
+
+pub unbegun : (user : List ℕ) (b : Objects) → TryDone user b b (Err faults.OutOfMemory)
+unbegun user b = record {
+  old = empty_of user b;
+  new = empty_of user b;
+  empty = refl;
+  sound = λ rose. omega (arith, rose);
+  began = refl;
+  left = refl;
+  session = not_begun (asker_of user) 0 (empty_of user b);
+}
 
 -- ---- the clauses
 

@@ -3,3 +3,4 @@ mod Making
 mod Serving
 mod Turning
 mod Whole
+pub mod Unbegun
