@@ -1,6 +1,6 @@
 //! What several users change of one database by its permits: small cases, found among random ones.
 
-use crate::turns::{Turn, all_print};
+use crate::sessions::{Turn, all_print};
 use std::test::*;
 
 /// An append names attributes that a permit for it lists; the others are 0.

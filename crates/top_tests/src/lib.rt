@@ -13,11 +13,11 @@ mod owned;
 #[cfg(test)]
 mod permitted;
 #[cfg(test)]
+mod sessions;
+#[cfg(test)]
 mod shown;
 #[cfg(test)]
 mod trials;
-#[cfg(test)]
-mod turns;
 #[cfg(test)]
 mod users;
 #[cfg(test)]

@@ -1,6 +1,6 @@
 //! What the statements of the catalogue and of files do to relations of several users.
 
-use crate::turns::{Turn, all_print};
+use crate::sessions::{Turn, all_print};
 use std::test::*;
 
 /// What another user made can't be destroyed, restructured, indexed or copied; that is checked last, and own names

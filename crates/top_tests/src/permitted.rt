@@ -1,6 +1,6 @@
 //! What aggregates are over for several users of one database.
 
-use crate::turns::{Turn, all_print};
+use crate::sessions::{Turn, all_print};
 use std::test::*;
 
 /// Aggregates of a relation, and of a view with a term, are over the rows that a permit shows.

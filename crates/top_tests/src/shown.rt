@@ -1,6 +1,6 @@
 //! What several users see of one database by its permits: small cases, most of them found among random ones.
 
-use crate::turns::{Turn, all_print};
+use crate::sessions::{Turn, all_print};
 use std::test::*;
 
 /// A permit that lists an attribute shows that alone, and a permit for all is for each user.

@@ -1,6 +1,6 @@
 //! What scripts of several users print that run one after the other on one database in memory.
 
-use crate::turns::{Turn, all_print};
+use crate::sessions::{Turn, all_print};
 use std::test::*;
 
 /// Two permits of an attribute each don't permit both, and none of them a deletion. What a statement names,
